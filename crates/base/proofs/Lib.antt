@@ -1,0 +1,4 @@
+pub mod Counts
+pub mod Sums
+pub mod Bits
+pub mod Transform
