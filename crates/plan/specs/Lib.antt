@@ -1,0 +1,6 @@
+pub mod Kinds
+pub mod Laws
+pub mod Order
+pub mod Plans
+pub mod Reliability
+pub mod Requests
