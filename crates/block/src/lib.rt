@@ -1,0 +1,30 @@
+//! The block file: three fields, read one by one as parts of the input, or the first refusal.
+mod code;
+mod due;
+mod field;
+mod laws;
+mod numbers;
+mod reader;
+mod receives;
+
+pub use code::CheckCode;
+pub use code::CheckCodeDebug;
+pub use code::CheckCodePartialEq;
+pub use code::StoreCode;
+pub use code::StoreCodeDebug;
+pub use code::StoreCodePartialEq;
+pub use due::Due;
+pub use field::Field;
+pub use laws::granted_files_are_laid_out;
+pub use laws::laid_out_files_are_granted;
+pub use numbers::PlanNumbers;
+pub use numbers::PlanNumbersDebug;
+pub use numbers::PlanNumbersPartialEq;
+pub use numbers::SearchNumbers;
+pub use numbers::SearchNumbersDebug;
+pub use numbers::SearchNumbersPartialEq;
+pub use reader::Block;
+pub use reader::Fields;
+pub use reader::examine;
+pub use reader::field_at;
+pub use receives::received;
