@@ -1,0 +1,4 @@
+pub mod Blocked
+pub mod Butterfly
+pub mod Masks
+pub mod Packed
