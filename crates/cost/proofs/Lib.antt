@@ -1,0 +1,10 @@
+pub mod Values
+pub mod Halves
+pub mod Path
+pub mod Clean
+pub mod Levels
+pub mod Silent
+pub mod Limits
+pub mod Filling
+pub mod Descent
+pub mod Paths

@@ -1,0 +1,7 @@
+pub mod Values
+pub mod Path
+pub mod Laws
+pub mod Levels
+pub mod Limits
+pub mod Block
+pub mod Rows
