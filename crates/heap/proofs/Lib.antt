@@ -1,0 +1,4 @@
+pub mod Fronts
+pub mod Kept
+pub mod Sifts
+pub mod Sorts
