@@ -1,0 +1,11 @@
+pub mod Lists
+pub mod Prefixes
+pub mod Counting
+pub mod Lawful
+pub mod Rules
+pub mod Invariant
+pub mod Steps
+pub mod Runs
+pub mod Example
+pub mod Exact
+pub mod Clean

@@ -1,0 +1,10 @@
+pub mod Lists
+pub mod Paths
+pub mod Stores
+pub mod Calls
+pub mod Search
+pub mod Records
+pub mod Promise
+pub mod Example
+pub mod Laws
+pub mod Clean
