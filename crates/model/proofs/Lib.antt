@@ -1,0 +1,5 @@
+pub mod Blocks
+pub mod Reading
+pub mod Children
+pub mod Rows
+pub mod Following
