@@ -1,4 +1,6 @@
 //! Up to 1,024 bits packed in words, and the polar transform of them by masks and shifts.
+#![tactic(auto)]
+
 mod laws;
 mod row;
 mod word;

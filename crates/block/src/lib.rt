@@ -1,4 +1,6 @@
 //! The block file: three fields, read one by one as parts of the input, or the first refusal.
+#![tactic(auto)]
+
 mod code;
 mod due;
 mod field;

@@ -1,4 +1,6 @@
 //! Reads a block file from standard input and prints its checklist.
+#![tactic(auto)]
+
 use inspect::inspect;
 use std::io;
 use std::io::Read;

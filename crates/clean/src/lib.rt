@@ -1,5 +1,7 @@
 //! That a word received clean is the first that the search shows, with the payload that was sent. Theory alone: a
 //! function here stands for the theorem that its contract states.
+#![tactic(auto)]
+
 ghost use Rattle.clean.specs.Laws.{ShortenedPlacesCarryZero, CodedWordsSent, WordsCanBeReceived, ReceivedWordStandsApart, AnyCleanWordFirst, ReceivedWordFirst, ReceivedPayloadFirst, FinishedWordsReceived, EncodedPayloadsReceived};
 ghost use Rattle.search.specs.Stores.{Store, StoreLaws, CapacityLaws};
 

@@ -1,4 +1,6 @@
 //! The encoder's two kinds of word, and the recovery of soft values from received ones.
+#![tactic(auto)]
+
 mod coded;
 mod laid;
 mod laws;

@@ -1,4 +1,6 @@
 // What a path costs: decision values by halving, the cost of a path, and the laws of both.
+#![tactic(auto)]
+
 pub mod laws;
 mod memo;
 mod rows;

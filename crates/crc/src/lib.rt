@@ -1,4 +1,6 @@
 //! The definitions and the theory of remainders and of the spread order, below the checks that are made of them.
+#![tactic(auto)]
+
 mod spread;
 mod worked;
 

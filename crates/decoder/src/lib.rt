@@ -1,4 +1,6 @@
 //! The decoder: a bounded stack search over any store and any check.
+#![tactic(auto)]
+
 mod block;
 mod counts;
 mod decoder;

@@ -8,7 +8,7 @@ const ROWS: u8 = 129;
 
 // The first free row. There are more rows than any store may keep candidates.
 fn first_free<S: Store>(store: &S) -> u8
-    ensures free { holds_row result (kept store.now) ≡ false }
+    ensures free { holds_row result (S.kept store.now) ≡ false }
     ensures inside { result < 129 }
 {
     for row in 0..ROWS {
@@ -21,7 +21,7 @@ fn first_free<S: Store>(store: &S) -> u8
 
 // The first free row from a likely one on, or else the first of all.
 pub fn free_row<S: Store>(store: &S, likely: u8) -> u8
-    ensures free { holds_row result (kept store.now) ≡ false }
+    ensures free { holds_row result (S.kept store.now) ≡ false }
     ensures inside { result < 129 }
 {
     for row in likely..ROWS {

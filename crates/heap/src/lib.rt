@@ -1,4 +1,6 @@
 //! A store in fixed memory as a binary heap: the first of the kept candidates stands in front.
+#![tactic(auto)]
+
 mod binary;
 mod sift;
 

@@ -1,4 +1,5 @@
 //! What a field engineer reads off a block file: the checklist as values, and as text.
+#![tactic(auto)]
 
 mod sheet;
 mod soft;

@@ -1,4 +1,6 @@
 //! Why a path costs what it costs: its ledger, bit by bit, and what its codeword contradicts.
+#![tactic(auto)]
+
 mod entry;
 mod soft;
 mod text;

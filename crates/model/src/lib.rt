@@ -1,5 +1,7 @@
 //! How the program's plans, soft values, checks and stores are read as the blocks and stores of the search. Theory
 //! alone: a function here stands for the theorem that its contract states.
+#![tactic(auto)]
+
 ghost use Rattle.model.specs.Laws.{BlockIsLawful, WordCostsContradictions, WordsJudgedWhole, StoreReadsAsRuled};
 
 // A plan, soft values and a check that keeps its law make a block that the search may be loaded with.

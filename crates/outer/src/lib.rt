@@ -1,4 +1,6 @@
 //! The outer checks of a payload: what a check is, and the kinds none, trailing and spread.
+#![tactic(auto)]
+
 mod check;
 mod division;
 mod examples;

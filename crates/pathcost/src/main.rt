@@ -1,4 +1,6 @@
 //! Reads a block file from standard input and the bits of a path from its argument, and prints what each bit costs.
+#![tactic(auto)]
+
 use anyhow::anyhow;
 use base::Refusal;
 use bits::Row;

@@ -1,4 +1,6 @@
 //! The plan of a code block: its rate matching, and the kind of every position.
+#![tactic(auto)]
+
 mod choice;
 mod draft;
 mod kind;

@@ -1,4 +1,6 @@
 //! Runs of a decoder: any calls of it as values, played from a new one on, with the promise over all of them.
+#![tactic(auto)]
+
 mod call;
 mod plays;
 mod replays;

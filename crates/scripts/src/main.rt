@@ -1,5 +1,7 @@
 //! Plays scripts of decoder calls, one call to a line of standard input, and prints what each answers and what is then
 //! kept.
+#![tactic(auto)]
+
 mod line;
 mod numbers;
 mod player;

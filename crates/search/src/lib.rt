@@ -1,5 +1,7 @@
 //! The bounded stack search as a definition over any store and any block, and its promise over every run. Theory
 //! alone: a function here stands for the theorem that its contract states.
+#![tactic(auto)]
+
 ghost use Rattle.search.specs.Stores.{Store, StoreLaws, CapacityLaws, ruled};
 ghost use Rattle.std.specs.Prelude.{ℕ};
 ghost use Rattle.search.specs.Calls.{Loaded};

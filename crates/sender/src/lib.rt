@@ -1,4 +1,6 @@
 //! What a sender does: from a request to its sent bits, and to the block file that a receiver sees of them.
+#![tactic(auto)]
+
 mod arrival;
 mod failure;
 mod file;

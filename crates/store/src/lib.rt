@@ -1,4 +1,6 @@
 //! Candidates of the search, what a store of them is, and a store in fixed memory: a table kept in order.
+#![tactic(auto)]
+
 mod candidate;
 pub mod laws;
 mod minimum;

@@ -1,4 +1,6 @@
 //! The calls of a store as values, and the tests that both stores pass.
+#![tactic(auto)]
+
 mod call;
 mod plays;
 #[cfg(test)]

@@ -6,8 +6,8 @@ use crate::call::{Answer, Call};
 use store::Store;
 
 pub fn play<S: Store>(store: &mut S, call: Call) -> Answer
-    ensures state { state_of kept capacity floor store.new ≡ played call (state_of kept capacity floor store.old) }
-    ensures answer { result ≡ answered call (state_of kept capacity floor store.old) }
+    ensures state { state_of S.kept S.capacity S.floor store.new ≡ played call (state_of S.kept S.capacity S.floor store.old) }
+    ensures answer { result ≡ answered call (state_of S.kept S.capacity S.floor store.old) }
 {
     match call {
         Call::Empty(wanted) => {

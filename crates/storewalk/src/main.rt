@@ -1,5 +1,7 @@
 // Plays the calls that standard input lists, one to a line, on a table and on a heap, and prints for each line what
 // the two answer and how many they then keep.
+#![tactic(auto)]
+
 use heap::Heap;
 use std::alloc::{AllocError, Global};
 use std::io;

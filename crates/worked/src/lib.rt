@@ -1,4 +1,6 @@
 //! The worked examples of docs/RULES.md that are about definitions, gathered in one contract. Theory alone.
+#![tactic(auto)]
+
 ghost use Rattle.bits.specs.Laws.{OneOf32};
 ghost use Rattle.cost.specs.Laws.{CostsOfAPair};
 ghost use Rattle.crc.specs.Examples.{SpreadOfEight};

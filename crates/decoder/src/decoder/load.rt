@@ -25,7 +25,7 @@ use store::{BLANK, Store};
 impl<S: Store, C: Judge> Decoder<S, C> {
     // Whether a block and limits may be loaded, the range of its soft values aside.
     fn may_load(&self, plan: &Plan, llrs: &[i32], limits: Limits) -> bool
-        ensures { result ≡ ((fits_check (bits self.now.check) (longest self.now.check) plan.now && length llrs.now == block_length plan.now) && limits_allowed limits) }
+        ensures { result ≡ ((fits_check (C.bits self.now.check) (C.longest self.now.check) plan.now && length llrs.now == block_length plan.now) && limits_allowed limits) }
     {
         plan.check_bits() == self.check.check_bits()
             && plan.payload_bits() <= self.check.longest_payload()
@@ -35,7 +35,7 @@ impl<S: Store, C: Judge> Decoder<S, C> {
 
     // The block that may be loaded, or why none.
     fn examined(&self, plan: &Plan, llrs: &[i32], limits: Limits) -> Result<Block, Refusal>
-        ensures { Examined (request_of (bits self.now.check) (longest self.now.check) ((meanings kept capacity floor accepted hopeless carried).check self.now.check) plan.now llrs.now limits) ((meanings kept capacity floor accepted hopeless carried).check self.now.check) limits result }
+        ensures { Examined (request_of (C.bits self.now.check) (C.longest self.now.check) ((meanings S.kept S.capacity S.floor C.accepted C.hopeless C.carried).check self.now.check) plan.now llrs.now limits) ((meanings S.kept S.capacity S.floor C.accepted C.hopeless C.carried).check self.now.check) limits result }
     {
         if !self.may_load(plan, llrs, limits) {
             return Err(Refusal::Block { at: 0 });
@@ -51,8 +51,8 @@ impl<S: Store, C: Judge> Decoder<S, C> {
     // Makes the path of length 0 the only one that is kept.
     fn start(&mut self, block: Block, limits: Limits)
         requires limits { limits_allowed limits ≡ true }
-        ensures model { model_of (meanings kept capacity floor accepted hopeless carried) self.new ≡ search.Busy (started_with block ((meanings kept capacity floor accepted hopeless carried).check self.old.check) limits) }
-        ensures coherent { Coherent (meanings kept capacity floor accepted hopeless carried) self.new }
+        ensures model { model_of (meanings S.kept S.capacity S.floor C.accepted C.hopeless C.carried) self.new ≡ search.Busy (started_with block ((meanings S.kept S.capacity S.floor C.accepted C.hopeless C.carried).check self.old.check) limits) }
+        ensures coherent { Coherent (meanings S.kept S.capacity S.floor C.accepted C.hopeless C.carried) self.new }
         ensures check { self.new.check ≡ self.old.check }
     {
         self.store.empty(limits.capacity);
@@ -70,11 +70,11 @@ impl<S: Store, C: Judge> Decoder<S, C> {
 
     // Takes a plan with its soft values, and starts to search from the path of length 0.
     pub fn load(&mut self, plan: &Plan, llrs: &[i32], limits: Limits) -> Result<Report, Refusal>
-        ensures model { model_of (meanings kept capacity floor accepted hopeless carried) self.new ≡ (called ruled (model_of (meanings kept capacity floor accepted hopeless carried) self.old) (search.Load (request_of (bits self.old.check) (longest self.old.check) ((meanings kept capacity floor accepted hopeless carried).check self.old.check) plan.now llrs.now limits))).0 }
-        ensures answer { reported result ≡ (called ruled (model_of (meanings kept capacity floor accepted hopeless carried) self.old) (search.Load (request_of (bits self.old.check) (longest self.old.check) ((meanings kept capacity floor accepted hopeless carried).check self.old.check) plan.now llrs.now limits))).1 }
-        ensures coherent { Coherent (meanings kept capacity floor accepted hopeless carried) self.old → Coherent (meanings kept capacity floor accepted hopeless carried) self.new }
+        ensures model { model_of (meanings S.kept S.capacity S.floor C.accepted C.hopeless C.carried) self.new ≡ (called ruled (model_of (meanings S.kept S.capacity S.floor C.accepted C.hopeless C.carried) self.old) (search.Load (request_of (C.bits self.old.check) (C.longest self.old.check) ((meanings S.kept S.capacity S.floor C.accepted C.hopeless C.carried).check self.old.check) plan.now llrs.now limits))).0 }
+        ensures answer { reported result ≡ (called ruled (model_of (meanings S.kept S.capacity S.floor C.accepted C.hopeless C.carried) self.old) (search.Load (request_of (C.bits self.old.check) (C.longest self.old.check) ((meanings S.kept S.capacity S.floor C.accepted C.hopeless C.carried).check self.old.check) plan.now llrs.now limits))).1 }
+        ensures coherent { Coherent (meanings S.kept S.capacity S.floor C.accepted C.hopeless C.carried) self.old → Coherent (meanings S.kept S.capacity S.floor C.accepted C.hopeless C.carried) self.new }
         ensures check { self.new.check ≡ self.old.check }
-        ensures clean { error_of result ≡ None → CleanFirst plan.now ((meanings kept capacity floor accepted hopeless carried).check self.old.check) llrs.now limits (model_of (meanings kept capacity floor accepted hopeless carried) self.new) }
+        ensures clean { error_of result ≡ None → CleanFirst plan.now ((meanings S.kept S.capacity S.floor C.accepted C.hopeless C.carried).check self.old.check) llrs.now limits (model_of (meanings S.kept S.capacity S.floor C.accepted C.hopeless C.carried) self.new) }
         ensures refused { KeptIfRefused result self.old self.new }
     {
         let block = self.examined(plan, llrs, limits)?;

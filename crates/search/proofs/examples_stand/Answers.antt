@@ -2,4 +2,4 @@ use Rattle.search.proofs.Example.{two-bits-lawful, two-bits-answered, checked-la
 use Rattle.search.proofs.examples_stand.Goals as goal
 
 pub returns : goal.returns
-returns c = record { lawful = two-bits-lawful; answers = two-bits-answered; checked-lawful = checked-lawful; checked-answers = checked-answered; parity = second-parity }
+returns c = record { lawful = two-bits-lawful; answers = two-bits-answered; checked_lawful = checked-lawful; checked_answers = checked-answered; parity = second-parity }

@@ -7,8 +7,8 @@ use Rattle.bits.proofs.word.span.Goals as goal
 pub single-requires : goal.single-requires
 single-requires c = omega (arith, pow-lt c.requires.width.0)
 
-pub overflow-sub-result : goal.overflow-sub-result
-overflow-sub-result c = omega (arith, c.single.ensures, pow_pos c.power.result)
+pub overflow_sub-result : goal.overflow_sub-result
+overflow_sub-result c = omega (arith, c.single.ensures, pow_pos c.power.result)
 
 pub returns : goal.returns
 returns c = λ k h.

@@ -5,10 +5,10 @@ use Rattle.base.specs.Bits.{bit_of}
 use Rattle.bits.proofs.Masks.{bit-stage}
 use Rattle.bits.proofs.word.stage.Goals as goal
 
-pub overflow-shr-result : goal.overflow-shr-result
-overflow-shr-result c = omega (arith, pow-lt c.requires.width)
+pub overflow_shr-result : goal.overflow_shr-result
+overflow_shr-result c = omega (arith, pow-lt c.requires.width)
 
 pub returns : goal.returns
 returns c = λ k h.
-    ap (λ p. bit_of (bit_xor c.args.x (bit_and (c.args.x / 2 ^ p) c.stage-mask.result)) k) c.power.ensures
-    ∙ bit-stage c.args.x c.stage-mask.result c.args.s k (c.stage-mask.ensures k h)
+    ap (λ p. bit_of (bit_xor c.args.x (bit_and (c.args.x / 2 ^ p) c.stage_mask.result)) k) c.power.ensures
+    ∙ bit-stage c.args.x c.stage_mask.result c.args.s k (c.stage_mask.ensures k h)

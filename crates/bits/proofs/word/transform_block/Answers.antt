@@ -10,12 +10,12 @@ returns c =
     let o = c.args.offset in
     let room : n ≤ 6 = omega arith in
     let fit : o + 2 ^ n ≤ 64 = block-fits n 64 o (pow-whole n 6 room) c.requires.aligned c.requires.width.1 in
-    let m = merged c.args.x c.transform-blocks.result c.span-mask.result o n c.span-mask.type-inv c.span-mask.ensures in
+    let m = merged c.args.x c.transform_blocks.result c.span-mask.result o n c.span-mask.type_inv c.span-mask.ensures in
     record {
       inside = λ i h.
           let l : o + i < 64 = omega arith in
           m.inside (o + i) l (omega arith) (omega arith)
-          ∙ c.transform-blocks.ensures (o + i) l
+          ∙ c.transform_blocks.ensures (o + i) l
           ∙ block-bit-at n (bit_of c.args.x) o i c.requires.aligned h;
       outside = m.outside;
     }

@@ -32,6 +32,6 @@ returns c i l =
     let u : ℕ → _ = words_bit c.args.words.now in
     let all : 64 * length c.loop-s.words ≡ 2 ^ (6 + c.args.t) = omega (arith, pow-add 2 6 c.args.t) in
     let done : c.loop-s.s ≡ c.args.t = omega arith in
-    c.loop-s.invariant u (λ k h. words-each c.args.words.now c.transform-each.new.words c.transform-each.ensures k (omega arith)) i (omega arith)
+    c.loop-s.invariant u (λ k h. words-each c.args.words.now c.transform_each.new.words c.transform_each.ensures k (omega arith)) i (omega arith)
     ∙ ap (λ s. block_bit (6 + s) u i) done
     ∙ block-bit-first (6 + c.args.t) u i l

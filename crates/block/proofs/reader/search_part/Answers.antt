@@ -9,5 +9,5 @@ use Rattle.block.proofs.reader.search_part.Goals as goal
 pub unreachable-requires : goal.unreachable-requires
 unreachable-requires c =
     true≢false
-    (sym (sound-field c.args.input.now search_at Search c.in-ok-field.field c.in-ok-field.ensures)
+    (sym (sound-field c.args.input.now search_at Search c.in_ok-field.field c.in_ok-field.ensures)
     ∙ ap (sound Search) (sym c.body.ensures) ∙ c.in-None.ensures)

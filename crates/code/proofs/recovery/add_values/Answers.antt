@@ -9,8 +9,8 @@ use Rattle.code.proofs.recovery.add_values.Goals as goal
 pub loop-k-init : goal.loop-k-init
 loop-k-init c = added_none (place_of c.args.plan.now) (value_at c.args.values.now) c.args.llrs.now
 
-pub overflow-add-llrs : goal.overflow-add-llrs
-overflow-add-llrs c =
+pub overflow_add-llrs : goal.overflow_add-llrs
+overflow_add-llrs c =
     (turn c.args.plan.now c.args.values.now c.args.llrs.now c.loop-k.llrs c.loop-k.k c.place.result c.loop-k.invariant
     (omega arith) c.requires.start c.requires.within c.loop-k-test.true c.requires.sent (search rules) (search rules)).fits
 

@@ -11,7 +11,7 @@ returns c =
     let values = c.args.values.now in
     let sent : length values ≡ sent_bits plan = omega arith in
     let block : length c.args.llrs.now ≡ block_length plan = omega arith in (
-      verdict-none plan values (length c.args.llrs.now) sent block (sym c.first-beyond.ensures ∙ c.in-default.is),
-      λ i l. soft-from plan (value_at values) i (length values) (value_at c.clear.new.llrs i) (value_at c.add-values.new.llrs i)
-          sent (c.clear.ensures i (omega arith)) (c.add-values.ensures i (omega arith)),
+      verdict-none plan values (length c.args.llrs.now) sent block (sym c.first_beyond.ensures ∙ c.in_default.is),
+      λ i l. soft-from plan (value_at values) i (length values) (value_at c.clear.new.llrs i) (value_at c.add_values.new.llrs i)
+          sent (c.clear.ensures i (omega arith)) (c.add_values.ensures i (omega arith)),
     )

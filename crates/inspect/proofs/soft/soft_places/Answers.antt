@@ -6,7 +6,7 @@ use Rattle.inspect.proofs.soft.soft_places.Goals as goal
 
 pub returns : goal.returns
 returns c =
-    let size : length c.recover-from.new.llrs ≡ block_length c.args.plan.now = search rules in (
-      c.in-ok-recover-from.ensures.0,
-      λ i l. get_or_append_left c.recover-from.new.llrs _ (pos 0) i (omega arith) ∙ c.in-ok-recover-from.ensures.1 i l,
+    let size : length c.recover_from.new.llrs ≡ block_length c.args.plan.now = search rules in (
+      c.in_ok-recover_from.ensures.0,
+      λ i l. get_or_append_left c.recover_from.new.llrs _ (pos 0) i (omega arith) ∙ c.in_ok-recover_from.ensures.1 i l,
     )

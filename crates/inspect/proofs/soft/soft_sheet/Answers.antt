@@ -3,24 +3,24 @@ use Rattle.std.proofs.Common.{◌∙◌}
 use Rattle.inspect.proofs.Places.{plan-of, softs-of, values-body, verdict-of}
 use Rattle.inspect.proofs.soft.soft_sheet.Goals as goal
 
-pub returns-in-Ok-soft-places : goal.returns-in-Ok-soft-places
-returns-in-Ok-soft-places c =
+pub returns-in-Ok-soft_places : goal.returns-in-Ok-soft_places
+returns-in-Ok-soft_places c =
     let file = c.in-Ok.ensures in (
       plan-of c.args.input.now c.in-Ok.block c.builtin-plan.result c.make.new.self c.request.result c.make.result _
-          file c.in-default.is c.make.ensures c.request.ensures,
-      softs-of c.make.new.self c.args.input.now c.body.result.now c.in-Ok-soft-places.llrs
+          file c.in_default.is c.make.ensures c.request.ensures,
+      softs-of c.make.new.self c.args.input.now c.body.result.now c.in-Ok-soft_places.llrs
           (c.body.ensures ∙ values-body c.args.input.now c.in-Ok.block.fields.values file.1.values-field)
-          c.in-Ok-soft-places.ensures.1,
+          c.in-Ok-soft_places.ensures.1,
     )
 
-pub returns-in-Err-soft-places : goal.returns-in-Err-soft-places
-returns-in-Err-soft-places c =
+pub returns-in-Err-soft_places : goal.returns-in-Err-soft_places
+returns-in-Err-soft_places c =
     let file = c.in-Ok.ensures in
     record {
       plan = c.make.new.self;
       own = plan-of c.args.input.now c.in-Ok.block c.builtin-plan.result c.make.new.self c.request.result c.make.result _
-          file c.in-default.is c.make.ensures c.request.ensures;
-      refused = verdict-of c.make.new.self c.args.input.now c.body.result.now c.in-Err-soft-places.fault
+          file c.in_default.is c.make.ensures c.request.ensures;
+      refused = verdict-of c.make.new.self c.args.input.now c.body.result.now c.in-Err-soft_places.fault
           (c.body.ensures ∙ values-body c.args.input.now c.in-Ok.block.fields.values file.1.values-field)
-          c.in-Err-soft-places.ensures;
+          c.in-Err-soft_places.ensures;
     }

@@ -11,6 +11,6 @@ remainder-worked = refl
 pub returns : goal.returns
 returns c = record {
   remainder = remainder-worked;
-  spread = c.orders-as-worked.ensures.spread;
-  published = c.orders-as-worked.ensures.published;
+  spread = c.orders_as_worked.ensures.spread;
+  published = c.orders_as_worked.ensures.published;
 }

@@ -12,7 +12,7 @@ loop-q-preserved c = elim c.if-bit-struck.branch [
     omega (arith, w.place-is),
     ap₂ (λ s p. judged c.args.kind c.args.a c.args.beginning.now s (c.loop-q.q + 1) p) w.sums-is w.place-is
         ∙ judged-next c.args.kind c.args.a c.args.beginning.now c.loop-q.sums w.entered-sums.result c.loop-q.q c.loop-q.place
-        c.bit-at-bit.result w.disagrees.result c.requires.longest (omega arith) c.bit-at-bit.ensures.value (omega (arith, w.if-bit-struck.true))
+        c.bit_at-bit.result w.disagrees.result c.requires.longest (omega arith) c.bit_at-bit.ensures.value (omega (arith, w.if-bit-struck.true))
         (omega (arith, w.if-place-beginning.false)) w.disagrees.ensures w.if-disagrees.false w.entered-sums.ensures
         ∙ c.loop-q.invariant.1,
   )
@@ -20,7 +20,7 @@ loop-q-preserved c = elim c.if-bit-struck.branch [
     omega (arith, w.place-is),
     ap₂ (λ s p. judged c.args.kind c.args.a c.args.beginning.now s (c.loop-q.q + 1) p) w.sums-is w.place-is
         ∙ judged-skip c.args.kind c.args.a c.args.beginning.now c.loop-q.sums c.loop-q.q c.loop-q.place
-        c.bit-at-bit.result (omega arith) c.bit-at-bit.ensures.value (omega (arith, w.if-bit-struck.false))
+        c.bit_at-bit.result (omega arith) c.bit_at-bit.ensures.value (omega (arith, w.if-bit-struck.false))
         ∙ c.loop-q.invariant.1,
   )
 ]
@@ -33,7 +33,7 @@ returns-then-place-beginning c =
 pub returns-then-disagrees : goal.returns-then-disagrees
 returns-then-disagrees c =
     sym (judged-broken c.args.kind c.args.a c.args.beginning.now c.loop-q.sums c.loop-q.q c.loop-q.place
-    c.bit-at-bit.result c.disagrees.result c.requires.longest (omega arith) c.bit-at-bit.ensures.value (omega arith) (omega arith)
+    c.bit_at-bit.result c.disagrees.result c.requires.longest (omega arith) c.bit_at-bit.ensures.value (omega arith) (omega arith)
     c.disagrees.ensures c.if-disagrees.true)
     ∙ c.loop-q.invariant.1
 

@@ -17,24 +17,24 @@ loop-q-preserved c =
     let n : ℕ = length c.args.payload.now in
     elim c.if-bit-struck.branch [
       | then-bit-struck w ↦
-          (let u : longest c.args.kind - n ≤ c.bit-at-bit.result = omega (arith, w.if-bit-struck.true) in
+          (let u : longest c.args.kind - n ≤ c.bit_at-bit.result = omega (arith, w.if-bit-struck.true) in
           let m : length (left c.args.kind n c.loop-q.q) ≡ suc (length (left c.args.kind n (c.loop-q.q + 1))) =
-          ap length (left-next c.args.kind n c.loop-q.q c.bit-at-bit.result (omega arith) c.bit-at-bit.ensures.value u) in (
+          ap length (left-next c.args.kind n c.loop-q.q c.bit_at-bit.result (omega arith) c.bit_at-bit.ensures.value u) in (
             omega (arith, w.place-is),
             omega (arith, w.place-is),
             ap (reading c.args.kind n c.args.word.now c.if-bit-struck.payload (c.loop-q.q + 1)) w.place-is
                 ∙ reading-next c.args.kind n c.args.word.now c.loop-q.payload c.if-bit-struck.payload c.loop-q.q c.loop-q.place
-                c.bit-at-bit.result (omega arith) c.bit-at-bit.ensures.value u (omega arith) (w.payload-is ∙ w.put.ensures ∙ ap (λ h. set c.loop-q.payload (c.bit-at-bit.result - (h - n)) (get_or c.args.word.now c.loop-q.place false)) c.longest-of.ensures)
+                c.bit_at-bit.result (omega arith) c.bit_at-bit.ensures.value u (omega arith) (w.payload-is ∙ w.put.ensures ∙ ap (λ h. set c.loop-q.payload (c.bit_at-bit.result - (h - n)) (get_or c.args.word.now c.loop-q.place false)) c.longest_of.ensures)
                 ∙ c.loop-q.invariant.2,
           ))
       | else-bit-struck w ↦
           (let m : length (left c.args.kind n (c.loop-q.q + 1)) ≡ length (left c.args.kind n c.loop-q.q) =
-          ap length (left-skip c.args.kind n c.loop-q.q c.bit-at-bit.result (omega arith) c.bit-at-bit.ensures.value (omega (arith, w.if-bit-struck.false))) in (
+          ap length (left-skip c.args.kind n c.loop-q.q c.bit_at-bit.result (omega arith) c.bit_at-bit.ensures.value (omega (arith, w.if-bit-struck.false))) in (
             omega (arith, w.place-is),
             omega (arith, w.place-is),
             ap₂ (λ v p. reading c.args.kind n c.args.word.now v (c.loop-q.q + 1) p) w.payload-is w.place-is
-                ∙ reading-skip c.args.kind n c.args.word.now c.loop-q.payload c.loop-q.q c.loop-q.place c.bit-at-bit.result
-                (omega arith) c.bit-at-bit.ensures.value (omega (arith, w.if-bit-struck.false))
+                ∙ reading-skip c.args.kind n c.args.word.now c.loop-q.payload c.loop-q.q c.loop-q.place c.bit_at-bit.result
+                (omega arith) c.bit_at-bit.ensures.value (omega (arith, w.if-bit-struck.false))
                 ∙ c.loop-q.invariant.2,
           ))
     ]
@@ -43,7 +43,7 @@ pub bounds-word-place : goal.bounds-word-place
 bounds-word-place c =
     let n : ℕ = length c.args.payload.now in
     let m : length (left c.args.kind n c.loop-q.q) ≡ suc (length (left c.args.kind n (c.loop-q.q + 1))) =
-    ap length (left-next c.args.kind n c.loop-q.q c.bit-at-bit.result (omega arith) c.bit-at-bit.ensures.value (omega arith)) in
+    ap length (left-next c.args.kind n c.loop-q.q c.bit_at-bit.result (omega arith) c.bit_at-bit.ensures.value (omega arith)) in
     omega arith
 
 pub returns : goal.returns

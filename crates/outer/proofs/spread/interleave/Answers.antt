@@ -12,14 +12,14 @@ loop-q-preserved c = elim c.if-bit-struck.branch [
     omega (arith, w.place-is),
     ap (finishing c.args.kind c.args.payload.now c.if-bit-struck.word (c.loop-q.q + 1)) w.place-is
         ∙ finishing-next c.args.kind c.args.payload.now c.loop-q.word c.if-bit-struck.word c.loop-q.q c.loop-q.place
-        c.bit-at-bit.result w.value-of.result c.requires.longest (omega arith) (omega arith) c.bit-at-bit.ensures.value
-        (omega (arith, w.if-bit-struck.true)) w.value-of.ensures (w.word-is ∙ w.put.ensures) c.loop-q.invariant.1,
+        c.bit_at-bit.result w.value_of.result c.requires.longest (omega arith) (omega arith) c.bit_at-bit.ensures.value
+        (omega (arith, w.if-bit-struck.true)) w.value_of.ensures (w.word-is ∙ w.put.ensures) c.loop-q.invariant.1,
   )
   | else-bit-struck w ↦ (
     omega (arith, w.place-is),
     ap₂ (λ v p. finishing c.args.kind c.args.payload.now v (c.loop-q.q + 1) p) w.word-is w.place-is
-        ∙ finishing-skip c.args.kind c.args.payload.now c.loop-q.word c.loop-q.q c.loop-q.place c.bit-at-bit.result
-        (omega arith) c.bit-at-bit.ensures.value (omega (arith, w.if-bit-struck.false))
+        ∙ finishing-skip c.args.kind c.args.payload.now c.loop-q.word c.loop-q.q c.loop-q.place c.bit_at-bit.result
+        (omega arith) c.bit_at-bit.ensures.value (omega (arith, w.if-bit-struck.false))
         ∙ c.loop-q.invariant.1,
   )
 ]

@@ -8,10 +8,10 @@ loop-i-init c j = sums_none c.args.kind c.args.payload.now _ j
 
 pub loop-i-preserved : goal.loop-i-preserved
 loop-i-preserved c =
-    sums-more c.args.kind c.args.payload.now (c.longest-of.result - length c.args.payload.now) c.loop-i.i c.loop-i.sums
+    sums-more c.args.kind c.args.payload.now (c.longest_of.result - length c.args.payload.now) c.loop-i.i c.loop-i.sums
     c.entered-sums.result (omega arith) c.loop-i.invariant c.entered-sums.ensures
 
 pub returns : goal.returns
 returns c =
-    sums-all c.args.kind c.args.payload.now (c.longest-of.result - length c.args.payload.now) c.loop-i.i c.loop-i.sums
+    sums-all c.args.kind c.args.payload.now (c.longest_of.result - length c.args.payload.now) c.loop-i.i c.loop-i.sums
     (omega arith) (omega arith) c.requires.longest c.loop-i.invariant

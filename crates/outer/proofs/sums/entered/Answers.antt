@@ -7,11 +7,11 @@ use Rattle.base.proofs.Bits.{bit-xor}
 use Rattle.base.proofs.Transform.{xor-false-r}
 use Rattle.crc.proofs.Xors.{and-false, and-true}
 use Rattle.outer.proofs.sums.entered.Goals as goal
-use Rattle.outer.proofs.sums.entered.Goals.{else-value-via-then-value+else-bit-longest-of, else-value-via-else-value}
+use Rattle.outer.proofs.sums.entered.Goals.{else-value-via-then-value+else-bit-longest_of, else-value-via-else-value}
 
-pub returns-then-bit-longest-of : goal.returns-then-bit-longest-of
-returns-then-bit-longest-of c j =
-    let l : c.args.bit < longest c.args.kind = omega (arith, c.longest-of.ensures, c.if-bit-longest-of.true) in
+pub returns-then-bit-longest_of : goal.returns-then-bit-longest_of
+returns-then-bit-longest_of c j =
+    let l : c.args.bit < longest c.args.kind = omega (arith, c.longest_of.ensures, c.if-bit-longest_of.true) in
     bit-xor c.args.sums c.row.result j
     ∙ ap (xor (bit_of c.args.sums j))
     (c.row.ensures j
@@ -22,8 +22,8 @@ pub returns-else-value : goal.returns-else-value
 returns-else-value c j = sym (
     ap (xor (bit_of c.args.sums j))
     (elim c.else-value.branch [
-      | else-value-via-then-value+else-bit-longest-of w ↦
-          (let g : longest c.args.kind ≤ c.args.bit = omega (arith, w.longest-of.ensures, w.if-bit-longest-of.false) in
+      | else-value-via-then-value+else-bit-longest_of w ↦
+          (let g : longest c.args.kind ≤ c.args.bit = omega (arith, w.longest_of.ensures, w.if-bit-longest_of.false) in
           ap (λ t. (t && enters (rows c.args.kind) c.args.bit j) && c.args.value) (le-ltb c.args.bit (longest c.args.kind) g))
       | else-value-via-else-value w ↦
           ap (λ v. (ltb c.args.bit (longest c.args.kind) && enters (rows c.args.kind) c.args.bit j) && v) w.if-value.false

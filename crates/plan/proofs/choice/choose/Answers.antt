@@ -5,8 +5,8 @@ use Rattle.plan.specs.Order.{barred_in}
 use Rattle.plan.proofs.Walk.{Walked, walked_none, walked-most, walked_all, walked-count, step-open, step-barred}
 use Rattle.plan.proofs.choice.choose.Goals as goal
 
-pub overflow-add-free : goal.overflow-add-free
-overflow-add-free c =
+pub overflow_add-free : goal.overflow_add-free
+overflow_add-free c =
     let most : c.loop-k.free ≤ 1024 =
     walked-most (barred_in c.args.marks.now c.args.low) c.args.word c.args.parity
     c.loop-k.k c.loop-k.kinds c.loop-k.free c.loop-k.invariant in
@@ -20,8 +20,8 @@ loop-k-preserved-then-i-low c =
     let marks = c.args.marks.now in
     let i = c.rung-i.result in
     step-open (barred_in marks c.args.low) c.args.word c.args.parity
-    c.loop-k.k i c.kind-of-rank.result c.loop-k.kinds c.loop-k.free
-    c.loop-k-test.true c.loop-k.auto.k c.rung-i.ensures.result c.kind-of-rank.ensures
+    c.loop-k.k i c.kind_of_rank.result c.loop-k.kinds c.loop-k.free
+    c.loop-k-test.true c.loop-k.auto.k c.rung-i.ensures.result c.kind_of_rank.ensures
     (or_from (not (get_or marks i false)) (ltb i c.args.low) (ap not c.if-marks-i.true) (le-ltb i c.args.low c.if-i-low.true))
     c.loop-k.invariant
 

@@ -6,12 +6,12 @@ pub returns : goal.returns
 returns c =
     let q = c.args.request.now in
     let mode = c.mode-mode.result in
-    let marks = c.sent-marks-marks.result in
+    let marks = c.sent_marks-marks.result in
     let choice = c.choose-free.result in
     let h : Chosen q mode marks choice.kinds choice.free = record {
       within = c.requires;
       moded = c.mode-mode.ensures;
-      marked = c.sent-marks-marks.ensures;
+      marked = c.sent_marks-marks.ensures;
       chosen = c.choose-free.ensures.kinds;
       counted = c.choose-free.ensures.free;
     } in

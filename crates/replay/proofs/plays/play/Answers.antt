@@ -18,17 +18,17 @@ returns-in-Advance g c =
     let call = call_of m g.C.Judge.bits g.C.Judge.longest c.args.decoder.now.check c.args.values.now (length scratch) (length output) in
     let same : search.Advance c.in-Advance.budget (length (take (room - 0) scratch)) ≡ call c.args.call =
     ap (search.Advance c.in-Advance.budget) (front_length c.in-Advance.words room scratch c.min-room.ensures) ∙ sym (ap call c.in-Advance.is) in
-    let e = c.play-advance.ensures in
+    let e = c.play_advance.ensures in
     record {
       model = λ h. e.model h ∙ ap (λ q. (called ruled d q).0) same;
       answer = λ h. e.answer h ∙ ap (λ q. heard (called ruled d q).1) same;
       coherent = e.coherent;
       check = e.check;
       scratch = λ h.
-          scratch-whole d (called ruled d (search.Advance c.in-Advance.budget (length (take (room - 0) scratch)))).1 (room - 0) scratch c.play-advance.new.scratch (e.scratch h) c.play-advance.auto.scratch
+          scratch-whole d (called ruled d (search.Advance c.in-Advance.budget (length (take (room - 0) scratch)))).1 (room - 0) scratch c.play_advance.new.scratch (e.scratch h) c.play_advance.auto.scratch
           ∙ ap (λ q. scratch_left d (called ruled d q).1 scratch) same;
       output = λ h. advance-spares d c.in-Advance.budget (length (take (room - 0) scratch)) output ∙ ap (λ q. output_left d (called ruled d q).1 output) same;
-      refused = (e.refused.0, (kept_whole c.play-advance.result (room - 0) scratch c.play-advance.new.scratch e.refused.1, kept_same c.play-advance.result output));
+      refused = (e.refused.0, (kept_whole c.play_advance.result (room - 0) scratch c.play_advance.new.scratch e.refused.1, kept_same c.play_advance.result output));
     }
 
 pub returns-in-Word : goal.returns-in-Word
@@ -42,7 +42,7 @@ returns-in-Word g c =
     let same : search.Word (length (take (room - 0) output)) ≡ call c.args.call =
     ap search.Word (front_length c.in-Word.bytes room output c.min-room-in-Word.ensures) ∙ sym (ap call c.in-Word.is) in
     let spares = word-spares d (length (take (room - 0) output)) scratch in
-    let e = c.play-word.ensures in
+    let e = c.play_word.ensures in
     record {
       model = λ h. sym spares.0 ∙ ap (λ q. (called ruled d q).0) same;
       answer = λ h. e.answer h ∙ ap (λ q. heard (called ruled d q).1) same;
@@ -50,7 +50,7 @@ returns-in-Word g c =
       check = refl;
       scratch = λ h. spares.1 ∙ ap (λ q. scratch_left d (called ruled d q).1 scratch) same;
       output = λ h.
-          output-whole d (called ruled d (search.Word (length (take (room - 0) output)))).1 (room - 0) output c.play-word.new.output (e.output h) c.play-word.auto.output
+          output-whole d (called ruled d (search.Word (length (take (room - 0) output)))).1 (room - 0) output c.play_word.new.output (e.output h) c.play_word.auto.output
           ∙ ap (λ q. output_left d (called ruled d q).1 output) same;
-      refused = (kept_same c.play-word.result c.args.decoder.now, (kept_same c.play-word.result scratch, kept_whole c.play-word.result (room - 0) output c.play-word.new.output e.refused));
+      refused = (kept_same c.play_word.result c.args.decoder.now, (kept_same c.play_word.result scratch, kept_whole c.play_word.result (room - 0) output c.play_word.new.output e.refused));
     }

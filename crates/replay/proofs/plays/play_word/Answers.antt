@@ -11,7 +11,7 @@ returns-in-Ok g c =
     let after = c.word.new.output in
     let e = c.in-Ok.ensures in
     record {
-      answer = λ h. word-heard (payload_in d) _ c.payload-of.result after e.answer c.payload-of.ensures (e.output h);
+      answer = λ h. word-heard (payload_in d) _ c.payload_of.result after e.answer c.payload_of.ensures (e.output h);
       output = λ h. word-written d (payload_in d) _ c.args.output.now after e.answer (e.output h) c.word.auto.output;
       refused = tt;
     }

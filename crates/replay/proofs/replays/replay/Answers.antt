@@ -24,8 +24,8 @@ loop-call-init g c =
     let (items, (len, cap)) = c.in-Ok.ensures.made in
     (remains-all _ _ (vec_items c.in-Ok.answers) c.args.scratch.now c.args.output.now items, c.new-decoder.ensures.coherent, refl, len, cap)
 
-pub push-reserved-requires : goal.push-reserved-requires
-push-reserved-requires g c =
+pub push_reserved-requires : goal.push_reserved-requires
+push_reserved-requires g c =
     let (remains, coherent, check, len, cap) = c.loop-call.invariant in
     let taken : c.loop-call.call-index < length c.args.calls.now = c.loop-call-test.true in
     omega arith
@@ -45,8 +45,8 @@ loop-call-preserved g c =
     let same : call_of m g.C.Judge.bits g.C.Judge.longest c.loop-call.decoder.check c.args.values.now (length c.loop-call.scratch) (length c.loop-call.output) item ≡ f item =
     same-call m g.C.Judge.bits g.C.Judge.longest c.loop-call.decoder.check c.new-decoder.result.check c.args.values.now (length c.loop-call.scratch) (length scratch) (length c.loop-call.output) (length output) item check c.loop-call.auto.scratch c.loop-call.auto.output in
     let e = c.play-answer.ensures in
-    let pushed = c.push-reserved.ensures in (
-      remains-less (model_of m c.new-decoder.result) here (model_of m c.play-answer.new.decoder) _ _ _ (f item) (vec_items c.loop-call.answers) (vec_items c.push-reserved.new.self) c.play-answer.result scratch c.loop-call.scratch c.play-answer.new.scratch output c.loop-call.output c.play-answer.new.output remains (next-call f calls i item taken c.call-item.is)
+    let pushed = c.push_reserved.ensures in (
+      remains-less (model_of m c.new-decoder.result) here (model_of m c.play-answer.new.decoder) _ _ _ (f item) (vec_items c.loop-call.answers) (vec_items c.push_reserved.new.self) c.play-answer.result scratch c.loop-call.scratch c.play-answer.new.scratch output c.loop-call.output c.play-answer.new.output remains (next-call f calls i item taken c.call-item.is)
           (e.model coherent ∙ ap (λ q. (called ruled here q).0) same)
           (e.answer coherent ∙ ap (λ q. heard (called ruled here q).1) same)
           pushed.items

@@ -5,6 +5,6 @@ use Rattle.sender.proofs.image.write_field.Goals as goal
 
 pub returns : goal.returns
 returns c =
-    c.in-ok-extend-from-slice-2.ensures.items
-    ∙ ap (λ (xs : List ℕ). xs ++ c.args.body.now) c.in-ok-extend-from-slice.ensures.items
+    c.in_ok-extend_from_slice-2.ensures.items
+    ∙ ap (λ (xs : List ℕ). xs ++ c.args.body.now) c.in_ok-extend_from_slice.ensures.items
     ∙ append_assoc (vec_items c.args.file.now) _ c.args.body.now

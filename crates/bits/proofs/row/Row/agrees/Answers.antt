@@ -33,6 +33,6 @@ returns-else-whole-eq16 c =
     let n = min c.args.len 1024 in
     let all : c.min-bits.result ≡ n = c.min-bits.ensures in
     let words : WordsSame a b (c.min-bits.result / 64) = λ k l. c.loop-k.invariant k (omega arith) in
-    c.same-low.ensures
+    c.same_low.ensures
     ∙ rest-decides a b c.min-bits.result words
     ∙ ap (same_bits (words_bit a) (words_bit b)) all

@@ -13,11 +13,11 @@ returns c =
       inside = λ small i l.
           let start : 0 + i ≡ i = omega arith in
           let block : is_aligned_block 0 n ≡ true = is_block 0 n small (omega arith) (zero-mod (2 ^ n)) in
-          ap (row_bit c.transform-block.new.self) (sym start)
-          ∙ c.transform-block.ensures.inside block i l
+          ap (row_bit c.transform_block.new.self) (sym start)
+          ∙ c.transform_block.ensures.inside block i l
           ∙ code-bit-same n (λ k. row_bit was (0 + k)) (row_bit was) i (λ k _. let e : 0 + k ≡ k = omega arith in ap (row_bit was) e);
-      outside = λ k l. c.transform-block.ensures.outside k (inr (omega arith));
+      outside = λ k l. c.transform_block.ensures.outside k (inr (omega arith));
       refused = λ far.
           let none : is_aligned_block 0 n ≡ false = no_block 0 n far in
-          c.transform-block.ensures.refused none;
+          c.transform_block.ensures.refused none;
     }

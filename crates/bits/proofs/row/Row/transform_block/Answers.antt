@@ -4,33 +4,35 @@ use Rattle.bits.specs.Row.{is_aligned_block, row_bit}
 use Rattle.bits.proofs.Blocked.{block-placed, blocked-word, blocked-words, run_lent, run-put, word-aligned, words-fit}
 use Rattle.bits.proofs.row.Row.transform_block.Goals as goal
 
-pub transform-block-requires : goal.transform-block-requires
-transform-block-requires c =
-    let p = block-placed c.args.base c.args.n (sym c.if-not-is-block.ensures) in
+pub transform_block-requires : goal.transform_block-requires
+transform_block-requires c =
+    let p = block-placed c.args.base c.args.n (sym c.if-not-is_block.ensures) in
     record { width = (omega arith, omega arith); aligned = word-aligned c.args.base c.args.n (omega arith) p }
 
-pub slice-bounds-transform-end : goal.slice-bounds-transform-end
-slice-bounds-transform-end c =
-    let p = block-placed c.args.base c.args.n (sym c.if-not-is-block.ensures) in
+pub slice_bounds-transform-end : goal.slice_bounds-transform-end
+slice_bounds-transform-end c =
+    let p = block-placed c.args.base c.args.n (sym c.if-not-is_block.ensures) in
     let fit : c.args.base / 64 + c.power.result ≤ 16 = words-fit c.args.base c.args.n c.power.result (omega arith) p c.power.ensures in
     search rules
 
-pub invariant-of-self-else-n-lt6 : goal.invariant-of-self-else-n-lt6
-invariant-of-self-else-n-lt6 c =
-    let run = run_lent c.args.self.now.words c.transform.new.words c.args.base c.args.n c.power.result c.if-n-lt6.false (sym c.if-not-is-block.ensures) c.args.self.now.whole c.power.ensures c.transform.auto.words in
-    (run-put c.args.self.now.words c.transform.new.words c.args.base c.args.n _ run, tt)
+pub invariant_of-self-else-n-lt6 : goal.invariant_of-self-else-n-lt6
+invariant_of-self-else-n-lt6 c =
+    let run = run_lent c.args.self.now.words c.transform.new.words c.args.base c.args.n c.power.result c.if-n-lt6.false (sym c.if-not-is_block.ensures) c.args.self.now.whole c.power.ensures c.transform.auto.words in
+    record {
+      whole = run-put c.args.self.now.words c.transform.new.words c.args.base c.args.n _ run;
+    }
 
 pub returns-then-n-lt6 : goal.returns-then-n-lt6
 unfolding row_bit
 returns-then-n-lt6 c =
-    let block : is_aligned_block c.args.base c.args.n ≡ true = sym c.if-not-is-block.ensures in
-    let b = blocked-word c.args.self.now.words c.args.base c.args.n c.transform-block.result c.args.self.now.whole (omega arith) (block-placed c.args.base c.args.n block) c.transform-block.ensures.inside c.transform-block.ensures.outside in
+    let block : is_aligned_block c.args.base c.args.n ≡ true = sym c.if-not-is_block.ensures in
+    let b = blocked-word c.args.self.now.words c.args.base c.args.n c.transform_block.result c.args.self.now.whole (omega arith) (block-placed c.args.base c.args.n block) c.transform_block.ensures.inside c.transform_block.ensures.outside in
     record { inside = λ _. b.inside; outside = b.outside; refused = λ no. absurd (both_ways (is_aligned_block c.args.base c.args.n) no block) }
 
 pub returns-else-n-lt6 : goal.returns-else-n-lt6
 unfolding row_bit
 returns-else-n-lt6 c =
-    let block : is_aligned_block c.args.base c.args.n ≡ true = sym c.if-not-is-block.ensures in
+    let block : is_aligned_block c.args.base c.args.n ≡ true = sym c.if-not-is_block.ensures in
     let run = run_lent c.args.self.now.words c.transform.new.words c.args.base c.args.n c.power.result c.if-n-lt6.false block c.args.self.now.whole c.power.ensures c.transform.auto.words in
     let b = blocked-words c.args.self.now.words c.transform.new.words c.args.base c.args.n _ run c.transform.ensures in
     record { inside = λ _. b.inside; outside = b.outside; refused = λ no. absurd (both_ways (is_aligned_block c.args.base c.args.n) no block) }

@@ -8,12 +8,12 @@ use Rattle.code.proofs.coded.send.first_shortened_one.Goals as goal
 pub loop-i-init : goal.loop-i-init
 loop-i-init c = first-start (shortened_one c.args.plan.now (row_bit c.args.bits.now))
 
-pub returns-then-is-shortened-one : goal.returns-then-is-shortened-one
-returns-then-is-shortened-one c =
+pub returns-then-is_shortened_one : goal.returns-then-is_shortened_one
+returns-then-is_shortened_one c =
     sym (first_found (shortened_one c.args.plan.now (row_bit c.args.bits.now)) c.loop-i.i _ c.loop-i.invariant
-    (sym c.is-shortened-one.ensures ∙ c.if-is-shortened-one.true) (search rules))
+    (sym c.is_shortened_one.ensures ∙ c.if-is_shortened_one.true) (search rules))
 
 pub loop-i-preserved : goal.loop-i-preserved
 loop-i-preserved c =
     first_more (shortened_one c.args.plan.now (row_bit c.args.bits.now)) c.loop-i.i c.loop-i.invariant
-    (sym c.is-shortened-one.ensures ∙ c.if-is-shortened-one.false)
+    (sym c.is_shortened_one.ensures ∙ c.if-is_shortened_one.false)

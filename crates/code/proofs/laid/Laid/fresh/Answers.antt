@@ -4,7 +4,11 @@ use Rattle.plan.specs.Plans.{kind_at, block_length}
 use Rattle.code.proofs.Positions.{zero-fit}
 use Rattle.code.proofs.laid.Laid.fresh.Goals as goal
 
-pub invariant-of-result : goal.invariant-of-result
-invariant-of-result c =
+pub invariant_of-result : goal.invariant_of-result
+invariant_of-result c =
     let fit = zero-fit (kind_at c.args.plan.now) (block_length c.args.plan.now) (row_bit c.zero.result) c.zero.ensures in
-    (fit.frozen, (fit.parity, (fit.beyond, tt)))
+    record {
+      frozen = fit.frozen;
+      parity = fit.parity;
+      beyond = fit.beyond;
+    }

@@ -5,9 +5,9 @@ use Rattle.code.specs.Laying.{bits_of}
 use Rattle.code.proofs.Positions.{laid-fit}
 use Rattle.code.proofs.laid.Laid.lay.Goals as goal
 
-pub invariant-of-self : goal.invariant-of-self
-invariant-of-self g c =
+pub invariant_of-self : goal.invariant_of-self
+invariant_of-self g c =
     let plan = c.args.self.now.plan in
-    let fit = laid-fit (kind_at plan) (block_length plan) (g.C.Finish.finished c.args.check.now (bits_of c.args.payload.now)) (row_bit c.finished-row-bits.result)
-    plan.beyond c.finished-row-bits.ensures in
-    (fit.frozen, (fit.parity, (fit.beyond, tt)))
+    let fit = laid-fit (kind_at plan) (block_length plan) (g.C.Finish.finished c.args.check.now (bits_of c.args.payload.now)) (row_bit c.finished_row-bits.result)
+    plan.beyond c.finished_row-bits.ensures in
+    record { frozen = fit.frozen; parity = fit.parity; beyond = fit.beyond }

@@ -6,5 +6,5 @@ use Rattle.code.proofs.laid.lay.laid_row.Goals as goal
 
 pub returns : goal.returns
 returns c =
-    laid_both (kind_at c.args.plan.now) c.args.word.now (row_bit c.place-word-row.result) (row_bit c.add-parity.new.row)
-    c.place-word-row.ensures c.add-parity.ensures
+    laid_both (kind_at c.args.plan.now) c.args.word.now (row_bit c.place_word-row.result) (row_bit c.add_parity.new.row)
+    c.place_word-row.ensures c.add_parity.ensures

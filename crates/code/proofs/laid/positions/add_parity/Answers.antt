@@ -4,20 +4,20 @@ use Rattle.bits.specs.Row.{row_bit}
 use Rattle.plan.specs.Plans.{kind_at, block_length}
 use Rattle.code.proofs.Positions.{Summed, summed-parity, summed-other, summed-all}
 use Rattle.code.proofs.laid.positions.add_parity.Goals as goal
-use Rattle.code.proofs.laid.positions.add_parity.Goals.{then-is-parity, else-is-parity}
+use Rattle.code.proofs.laid.positions.add_parity.Goals.{then-is_parity, else-is_parity}
 
 pub loop-i-preserved : goal.loop-i-preserved
 loop-i-preserved c =
     let kinds = kind_at c.args.plan.now in
     let start = row_bit c.args.row.now in
-    elim c.if-is-parity.branch [
-      | then-is-parity w ↦
-          summed-parity kinds start c.loop-i.i w.parity-sum-sum.result (row_bit c.loop-i.row) (row_bit c.if-is-parity.row) c.loop-i.invariant
-          (omega arith) (sym c.is-parity.ensures ∙ w.if-is-parity.true) w.parity-sum-sum.ensures
+    elim c.if-is_parity.branch [
+      | then-is_parity w ↦
+          summed-parity kinds start c.loop-i.i w.parity_sum-sum.result (row_bit c.loop-i.row) (row_bit c.if-is_parity.row) c.loop-i.invariant
+          (omega arith) (sym c.is_parity.ensures ∙ w.if-is_parity.true) w.parity_sum-sum.ensures
           (λ j. ap (λ r. row_bit r j) w.row-is ∙ w.set.ensures j)
-      | else-is-parity w ↦
+      | else-is_parity w ↦
           λ j. ap (λ r. row_bit r j) w.row-is
-          ∙ summed-other kinds start c.loop-i.i (row_bit c.loop-i.row) c.loop-i.invariant (sym c.is-parity.ensures ∙ w.if-is-parity.false) j
+          ∙ summed-other kinds start c.loop-i.i (row_bit c.loop-i.row) c.loop-i.invariant (sym c.is_parity.ensures ∙ w.if-is_parity.false) j
     ]
 
 pub returns : goal.returns

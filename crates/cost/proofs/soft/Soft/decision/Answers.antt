@@ -9,7 +9,7 @@ descend-requires c =
     record {
       place = (c.requires.place, omega arith);
       room = omega arith;
-      levels = levels-top c.args.self.now.n _ _ _ c.args.scratch.now _ c.fill-top.ensures;
+      levels = levels-top c.args.self.now.n _ _ _ c.args.scratch.now _ c.fill_top.ensures;
     }
 
 pub returns : goal.returns
@@ -20,6 +20,6 @@ returns c =
           to_z-of_z w32 _ fits
           ∙ ends-in-decision c.args.self.now.n _ _ c.args.i c.descend.new.scratch c.requires.place c.descend.ensures.levels;
       levels = c.descend.ensures.levels;
-      before = c.descend.ensures.before ∙ c.fill-top.ensures.below 0 (pow_pos c.args.self.now.n);
-      rest = λ j le. c.descend.ensures.rest j le ∙ c.fill-top.ensures.above j (omega arith);
+      before = c.descend.ensures.before ∙ c.fill_top.ensures.below 0 (pow_pos c.args.self.now.n);
+      rest = λ j le. c.descend.ensures.rest j le ∙ c.fill_top.ensures.above j (omega arith);
     }

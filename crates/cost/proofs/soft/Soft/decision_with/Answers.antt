@@ -7,7 +7,7 @@ pub returns : goal.returns
 returns c =
     let ys = c.descend.new.scratch in
     let made = c.descend.ensures in
-    let ready = c.ready-level-low.ensures in
+    let ready = c.ready_level-low.ensures in
     let fits : SFits w32 (get_or ys 1 (pos 0)) = search rules in
     record {
       value = to_z-of_z w32 _ fits ∙ ends-in-decision c.args.self.now.n _ _ c.args.i ys c.requires.place made.levels;

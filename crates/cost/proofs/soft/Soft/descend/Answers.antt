@@ -10,8 +10,8 @@ pub loop-m-init : goal.loop-m-init
 loop-m-init c =
     descent-from c.args.self.now.n _ _ _ c.args.low c.args.scratch.now c.requires.place.1 c.args.self.now.bounded c.requires.levels
 
-pub fill-level-requires : goal.fill-level-requires
-fill-level-requires c =
+pub fill_level-requires : goal.fill_level-requires
+fill_level-requires c =
     let short : 2 ^ c.args.self.now.n ≤ 2 ^ 10 = pow_mono c.args.self.now.size in
     let low : 2 ^ suc (c.loop-m.m - 1) ≤ 2 ^ c.args.self.now.n = pow_mono (omega arith) in
     record {
@@ -25,7 +25,7 @@ fill-level-requires c =
 pub loop-m-preserved : goal.loop-m-preserved
 loop-m-preserved c =
     descent-turn c.args.self.now.n _ _ _ c.loop-m.m _ c.loop-m.scratch _ c.loop-m-test.true (omega arith)
-    c.fill-level.ensures c.loop-m.invariant
+    c.fill_level.ensures c.loop-m.invariant
 
 pub returns : goal.returns
 returns c =

@@ -19,8 +19,8 @@ more c =
     cost-more c.args.self.now.n _ _ c.loop-i.i c.loop-i.total c.contradiction-total.result c.loop-i.invariant.sum
     (c.contradiction-total.ensures ∙ ap₂ contradicts (to_z-of_z w32 _ fits ∙ c.decision.ensures.value) c.get.ensures.result)
 
-pub overflow-add-total : goal.overflow-add-total
-overflow-add-total c =
+pub overflow_add-total : goal.overflow_add-total
+overflow_add-total c =
     let most =
     cost-fits c.args.self.now.n (llr_of c.args.self.now) (row_bit c.args.row.now) c.args.self.now.size
     (λ k _. c.args.self.now.bounded k) (c.loop-i.i + 1) (omega arith) in

@@ -5,8 +5,8 @@ use Rattle.cost.specs.Memo.{Held}
 use Rattle.cost.proofs.Sharing.{levels-shared}
 use Rattle.cost.proofs.soft.Soft.ready_level.Goals as goal
 
-pub shared-level-requires : goal.shared-level-requires
-shared-level-requires c =
+pub shared_level-requires : goal.shared_level-requires
+shared_level-requires c =
     let short : 2 ^ c.args.self.now.n ≤ 2 ^ 10 = pow_mono c.args.self.now.size in
     record { size = (c.args.self.now.size, let h = c.requires.place in omega arith) }
 
@@ -16,8 +16,8 @@ returns-in-Holds c =
     let xs = c.args.scratch.now in
     let last = subst (λ m. Held d.n (llr_of d) m xs) c.in-Holds.is c.requires.held in
     record {
-      inside = c.shared-level.ensures.inside;
-      levels = levels-shared d.n c.shared-level.result (llr_of d) (row_bit c.args.row.now) c.args.i (row_bit c.in-Holds.path) c.in-Holds.at xs c.shared-level.ensures.shared last;
+      inside = c.shared_level.ensures.inside;
+      levels = levels-shared d.n c.shared_level.result (llr_of d) (row_bit c.args.row.now) c.args.i (row_bit c.in-Holds.path) c.in-Holds.at xs c.shared_level.ensures.shared last;
       before = refl;
       rest = λ j le. refl;
     }

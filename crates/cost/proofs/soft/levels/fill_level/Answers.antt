@@ -7,7 +7,7 @@ use Rattle.cost.proofs.soft.levels.fill_level.Goals as goal
 pub returns-then-i-m-eq0 : goal.returns-then-i-m-eq0
 returns-then-i-m-eq0 c =
     fill-low c.args.m c.args.i (level c.args.scratch.now (suc c.args.m)) (row_bit c.args.row.now)
-    c.args.scratch.now c.fill-first.new.scratch c.if-i-m-eq0.true c.fill-first.ensures
+    c.args.scratch.now c.fill_first.new.scratch c.if-i-m-eq0.true c.fill_first.ensures
 
 pub returns : goal.returns
 returns c =
@@ -17,5 +17,5 @@ returns c =
     let whole : is_aligned_block base c.args.m ≡ true =
     ap (λ b. is_aligned_block b c.args.m) begin ∙ first-half-block c.args.m c.args.i (omega arith) (omega arith) in
     fill-high c.args.m c.args.i base (level c.args.scratch.now (suc c.args.m)) (row_bit c.args.row.now)
-    (row_bit c.transform-block.new.self) c.args.scratch.now c.fill-second.new.scratch c.if-i-m-eq0.false begin
-    (c.transform-block.ensures.inside whole) c.fill-second.ensures
+    (row_bit c.transform_block.new.self) c.args.scratch.now c.fill_second.new.scratch c.if-i-m-eq0.false begin
+    (c.transform_block.ensures.inside whole) c.fill_second.ensures

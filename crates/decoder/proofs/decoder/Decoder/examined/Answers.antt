@@ -8,7 +8,7 @@ pub returns-in-Some : goal.returns-in-Some
 returns-in-Some g c =
     let check = c.args.self.now.check in
     let means : Meaning = record { accepted = g.C.Judge.accepted check; hopeless = g.C.Judge.hopeless check; carried = g.C.Judge.carried check } in
-    let apart = sym c.may-load.ensures ∙ c.if-not-may-load.false in
+    let apart = sym c.may_load.ensures ∙ c.if-not-may_load.false in
     let (loadable, plan, llrs) = c.in-Some.ensures in (
       granted (g.C.Judge.bits check) (g.C.Judge.longest check) means c.args.plan.now c.args.llrs.now c.args.limits apart loadable,
       same_block _ _ _ _ means plan llrs,
@@ -19,6 +19,6 @@ pub returns-in-None : goal.returns-in-None
 returns-in-None g c =
     let check = c.args.self.now.check in
     let means : Meaning = record { accepted = g.C.Judge.accepted check; hopeless = g.C.Judge.hopeless check; carried = g.C.Judge.carried check } in
-    let apart = sym c.may-load.ensures ∙ c.if-not-may-load.false in
+    let apart = sym c.may_load.ensures ∙ c.if-not-may_load.false in
     refused-value (g.C.Judge.bits check) (g.C.Judge.longest check) means c.args.plan.now c.args.llrs.now c.args.limits apart c.in-None.ensures
-    ∙ ap (λ k. Some (refusal.Block k)) (sym c.range-front.ensures)
+    ∙ ap (λ k. Some (refusal.Block k)) (sym c.range_front.ensures)

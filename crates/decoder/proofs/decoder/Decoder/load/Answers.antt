@@ -15,7 +15,7 @@ returns g c =
     let check : Meaning = m.check d.check in
     let bits = g.C.Judge.bits d.check in
     let longest = g.C.Judge.longest d.check in
-    let granted = c.in-ok-block.ensures.0 in
+    let granted = c.in_ok-block.ensures.0 in
     let model : model_of m c.start.new.self ≡ (called ruled (model_of m d) (Load (request_of bits longest check c.args.plan.now c.args.llrs.now c.args.limits))).0 = search rules in
     record {
       model = model;

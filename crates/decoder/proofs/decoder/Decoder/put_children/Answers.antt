@@ -28,10 +28,10 @@ returns-in-Frozen g c =
     let m = meanings g.S.Store.kept g.S.Store.capacity g.S.Store.floor g.C.Judge.accepted g.C.Judge.hopeless g.C.Judge.carried in
     record {
       model = λ ready small metric.
-          c.put-child.ensures.model ready (child-costs d c.args.c false c.contradiction.result c.requires.place metric (c.contradiction.ensures ∙ ap (λ v. contradicts v false) value))
+          c.put_child.ensures.model ready (child-costs d c.args.c false c.contradiction.result c.requires.place metric (c.contradiction.ensures ∙ ap (λ v. contradicts v false) value))
           ∙ ap (put_children ruled (path_of d c.args.c) (loaded_of m d)) (sym (allowed-first (kinds_of p) u i frozen kind));
-      apart = (c.put-child.ensures.apart.0, let h = c.put-child.ensures.apart.1 in omega arith);
-      frame = c.put-child.ensures.frame;
+      apart = (c.put_child.ensures.apart.0, let h = c.put_child.ensures.apart.1 in omega arith);
+      frame = c.put_child.ensures.frame;
       held = c.decision-value.ensures.held;
     }
 
@@ -41,27 +41,27 @@ returns-in-Parity g c =
     let p = plan_in d.block in
     let u = path_at d.rows c.args.c.row in
     let i = c.args.c.length in
-    let bit = c.parity-sum-bit.result in
+    let bit = c.parity_sum-bit.result in
     let fits : SFits w32 c.decision-value.result = search rules in
     let value : to_z w32 (of_z w32 c.decision-value.result) ≡ decision (log_length p) (llr_in d.block) u i =
     to_z-of_z w32 c.decision-value.result fits ∙ c.decision-value.ensures.value ∙ ap (λ v. decision (log_length p) (llr_in d.block) v i) c.path-path.ensures in
     let kind : kinds_of p i ≡ parity = ap kind_of (ap (λ q. kind_at q i) (sym c.plan.ensures) ∙ sym c.kind.ensures ∙ c.in-Parity.is) in
     let sum : bit ≡ parity_bit (kinds_of p) (first_bits u i) i =
-    c.parity-sum-bit.ensures ∙ ap₂ (λ q v. parity_bit (kinds_of q) (first_bits v i) i) c.plan-in-Parity.ensures c.path-path.ensures in
+    c.parity_sum-bit.ensures ∙ ap₂ (λ q v. parity_bit (kinds_of q) (first_bits v i) i) c.plan_in-Parity.ensures c.path-path.ensures in
     let m = meanings g.S.Store.kept g.S.Store.capacity g.S.Store.floor g.C.Judge.accepted g.C.Judge.hopeless g.C.Judge.carried in
     record {
       model = λ ready small metric.
-          c.put-child-in-Parity.ensures.model ready (child-costs d c.args.c bit c.contradiction-in-Parity.result c.requires.place metric (c.contradiction-in-Parity.ensures ∙ ap (λ v. contradicts v bit) value))
+          c.put_child-in-Parity.ensures.model ready (child-costs d c.args.c bit c.contradiction-in-Parity.result c.requires.place metric (c.contradiction-in-Parity.ensures ∙ ap (λ v. contradicts v bit) value))
           ∙ ap (put_children ruled (path_of d c.args.c) (loaded_of m d)) (ap (λ b. b ∷ []) sum ∙ sym (allowed-first (kinds_of p) u i parity kind));
-      apart = (c.put-child-in-Parity.ensures.apart.0, let h = c.put-child-in-Parity.ensures.apart.1 in omega arith);
-      frame = c.put-child-in-Parity.ensures.frame;
+      apart = (c.put_child-in-Parity.ensures.apart.0, let h = c.put_child-in-Parity.ensures.apart.1 in omega arith);
+      frame = c.put_child-in-Parity.ensures.frame;
       held = c.decision-value.ensures.held;
     }
 
 pub returns-in-Information : goal.returns-in-Information
 returns-in-Information g c =
     let d = c.args.self.now in
-    let e = c.put-child-in-Information.new.self in
+    let e = c.put_child-in-Information.new.self in
     let p = plan_in d.block in
     let u = path_at d.rows c.args.c.row in
     let i = c.args.c.length in
@@ -70,8 +70,8 @@ returns-in-Information g c =
     to_z-of_z w32 c.decision-value.result fits ∙ c.decision-value.ensures.value ∙ ap (λ v. decision (log_length p) (llr_in d.block) v i) c.path-path.ensures in
     let kind : kinds_of p i ≡ information = ap kind_of (ap (λ q. kind_at q i) (sym c.plan.ensures) ∙ sym c.kind.ensures ∙ c.in-Information.is) in
     let m = meanings g.S.Store.kept g.S.Store.capacity g.S.Store.floor g.C.Judge.accepted g.C.Judge.hopeless g.C.Judge.carried in
-    let one = c.put-child-in-Information.ensures in
-    let two = c.put-child-in-Information-2.ensures in
+    let one = c.put_child-in-Information.ensures in
+    let two = c.put_child-in-Information-2.ensures in
     record {
       model = λ ready small metric.
           two.model (ready_on m d e ready small one.frame.phase (one.later ready) one.apart.1)
@@ -80,6 +80,6 @@ returns-in-Information g c =
           ∙ ap₂ (λ q s. put_child ruled q s true) one.parent (one.model ready (child-costs d c.args.c false c.contradiction-in-Information.result c.requires.place metric (c.contradiction-in-Information.ensures ∙ ap (λ v. contradicts v false) value)))
           ∙ ap (put_children ruled (path_of d c.args.c) (loaded_of m d)) (sym (allowed-first (kinds_of p) u i information kind));
       apart = (λ h. two.apart.0 (one.apart.0 h), let a = one.apart.1 in let b = two.apart.1 in omega arith);
-      frame = searched-on d e c.put-child-in-Information-2.new.self one.frame two.frame;
+      frame = searched-on d e c.put_child-in-Information-2.new.self one.frame two.frame;
       held = c.decision-value.ensures.held;
     }

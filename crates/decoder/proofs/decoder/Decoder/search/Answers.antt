@@ -21,7 +21,7 @@ pub loop-preserved : goal.loop-preserved
 loop-preserved g c =
     let (going, check, block, size, held) = c.loop.invariant in
     let left : c.args.budget - c.loop.counter ≡ suc (c.args.budget - (c.loop.counter + 1)) = let h = c.loop-test.true in omega arith in (
-      λ s p. goes-again (means g) c.args.self.now c.loop.self c.args.budget (c.args.budget - c.loop.counter) (going s p) c.step.new.self (c.args.budget - (c.loop.counter + 1)) left c.in-default.ensures c.step.ensures.model c.step.ensures.sound c.in-default-phase.not-Shown,
+      λ s p. goes-again (means g) c.args.self.now c.loop.self c.args.budget (c.args.budget - c.loop.counter) (going s p) c.step.new.self (c.args.budget - (c.loop.counter + 1)) left c.in_default.ensures c.step.ensures.model c.step.ensures.sound c.in_default-phase.not-Shown,
       c.step.ensures.check.0 ∙ check,
       c.step.ensures.check.1 ∙ block,
       search rules,
@@ -42,7 +42,7 @@ returns-in-Shown g c =
     let (going, check, _, size, _) = c.loop.invariant in
     let left : c.args.budget - c.loop.counter ≡ suc (c.args.budget - (c.loop.counter + 1)) = let h = c.loop-test.true in omega arith in
     let done : Sound (means g) d → d.phase ≡ phase.Searching → Done (means g) d c.step.new.self c.args.budget met.Shown =
-    λ s p. done-shown (means g) d c.loop.self c.args.budget (c.args.budget - c.loop.counter) (going s p) c.step.new.self (c.args.budget - (c.loop.counter + 1)) left c.in-default.ensures c.step.ensures.model c.step.ensures.sound c.in-Shown.field-0 c.in-Shown.is in
+    λ s p. done-shown (means g) d c.loop.self c.args.budget (c.args.budget - c.loop.counter) (going s p) c.step.new.self (c.args.budget - (c.loop.counter + 1)) left c.in_default.ensures c.step.ensures.model c.step.ensures.sound c.in-Shown.field-0 c.in-Shown.is in
     record { model = λ s p. (done s p).model; met = λ s p. (done s p).met; sound = λ s p. (done s p).sound; loaded = λ s p. (done s p).loaded; check = c.step.ensures.check.0 ∙ check; room = search rules }
 
 pub returns-in-Some-halt : goal.returns-in-Some-halt

@@ -7,12 +7,12 @@ use Rattle.decoder.proofs.Apart.{apart-taken}
 use Rattle.decoder.proofs.Wholes.{none-taken, sound-step, children-step, word-step}
 use Rattle.decoder.proofs.decoder.Decoder.step.Goals as goal
 
-pub returns-in-default : goal.returns-in-default
-returns-in-default g c =
+pub returns-in_default : goal.returns-in_default
+returns-in_default g c =
     let d = c.args.self.now in
     let m = meanings g.S.Store.kept g.S.Store.capacity g.S.Store.floor g.C.Judge.accepted g.C.Judge.hopeless g.C.Judge.carried in
     let took = c.take.ensures in
-    let model = none-taken m d c.take.new.self (sym took.result ∙ c.in-default.is) took.kept took.capacity took.floor in
+    let model = none-taken m d c.take.new.self (sym took.result ∙ c.in_default.is) took.kept took.capacity took.floor in
     record {
       model = λ sound searching steps failures. model;
       sound = λ sound searching steps failures. sound-step m d _ sound model (apart-taken (m.kept d.store) _ sound.apart took.kept) sound.serials sound.shown;
@@ -26,10 +26,10 @@ returns-then-c-length g c =
     let d = c.args.self.now in
     let m = meanings g.S.Store.kept g.S.Store.capacity g.S.Store.floor g.C.Judge.accepted g.C.Judge.hopeless g.C.Judge.carried in
     let took = c.take.ensures in
-    let done = c.put-children.ensures in
+    let done = c.put_children.ensures in
     let part : c.in-Some.c.length < block_length (plan_in d.block) = let h = c.if-c-length.true in let k = c.length.ensures.result ∙ ap block_length c.plan.ensures in omega arith in
-    let s = children-step m d _ c.put-children.new.self c.in-Some.c part done.model done.apart done.frame
-    (λ steps. record { answer = sym took.result ∙ c.in-Some.is; kept = took.kept; capacity = took.capacity; floor = took.floor; rows = refl; check = refl; block = refl; most_failures = refl; most_steps = refl; serial = refl; steps = let h = c.saturating-add-self.ensures in let k = d.counts.brief in omega arith; failures = refl; phase = refl })
+    let s = children-step m d _ c.put_children.new.self c.in-Some.c part done.model done.apart done.frame
+    (λ steps. record { answer = sym took.result ∙ c.in-Some.is; kept = took.kept; capacity = took.capacity; floor = took.floor; rows = refl; check = refl; block = refl; most_failures = refl; most_steps = refl; serial = refl; steps = let h = c.saturating_add-self.ensures in let k = d.counts.brief in omega arith; failures = refl; phase = refl })
     refl refl refl in
     record { model = s.model; sound = s.sound; loaded = s.loaded; check = s.check; held = done.held }
 
@@ -41,6 +41,6 @@ returns g c =
     let done = c.judge.ensures in
     let long : block_length (plan_in d.block) ≤ c.in-Some.c.length = let h = c.if-c-length.false in let k = c.length.ensures.result ∙ ap block_length c.plan.ensures in omega arith in
     let s = word-step m d _ c.judge.new.self c.in-Some.c long done.model done.store done.frame done.shown done.loaded
-    (λ steps. record { answer = sym took.result ∙ c.in-Some.is; kept = took.kept; capacity = took.capacity; floor = took.floor; rows = refl; check = refl; block = refl; most_failures = refl; most_steps = refl; serial = refl; steps = let h = c.saturating-add-self.ensures in let k = d.counts.brief in omega arith; failures = refl; phase = refl })
+    (λ steps. record { answer = sym took.result ∙ c.in-Some.is; kept = took.kept; capacity = took.capacity; floor = took.floor; rows = refl; check = refl; block = refl; most_failures = refl; most_steps = refl; serial = refl; steps = let h = c.saturating_add-self.ensures in let k = d.counts.brief in omega arith; failures = refl; phase = refl })
     refl refl refl in
     record { model = s.model; sound = s.sound; loaded = s.loaded; check = s.check; held = c.requires.held }

@@ -9,4 +9,4 @@ returns g c = λ coherent allowed.
     let count = c.gather-count.result in
     let all : count - 0 ≡ count = omega arith in
     let word = c.gather-count.new.word in
-    shown-payload m c.args.self.now c.in-Shown.c c.plan-plan.result.now _ c.length.result (take (count - 0) word) _ c.write-carried.new.output c.in-Shown.is coherent c.plan-plan.ensures c.path-path.ensures c.length.ensures.result (ap (λ k. take k word) all ∙ c.gather-count.ensures.bits) c.requires.size c.write-carried.ensures
+    shown-payload m c.args.self.now c.in-Shown.c c.plan-plan.result.now _ c.length.result (take (count - 0) word) _ c.write_carried.new.output c.in-Shown.is coherent c.plan-plan.ensures c.path-path.ensures c.length.ensures.result (ap (λ k. take k word) all ∙ c.gather-count.ensures.bits) c.requires.size c.write_carried.ensures

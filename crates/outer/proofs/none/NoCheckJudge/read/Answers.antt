@@ -9,5 +9,5 @@ returns c =
     (fitting-tells 512 0 (length c.args.payload.now) (length c.args.word.now) (sym c.if-not-fits.ensures)).1 in
     record {
       result = c.if-not-fits.ensures;
-      output = c.copy-from-slice.ensures.after ∙ sym (take_all (length c.args.payload.now) c.args.word.now (omega arith));
+      output = c.copy_from_slice.ensures.after ∙ sym (take_all (length c.args.payload.now) c.args.word.now (omega arith));
     }

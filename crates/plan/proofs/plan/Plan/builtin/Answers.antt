@@ -3,32 +3,21 @@ use Rattle.std.proofs.Common.{refl, lit≤}
 use Rattle.plan.proofs.Lawful.{builtin-kinds, builtin-lawful}
 use Rattle.plan.proofs.plan.Plan.builtin.Goals as goal
 
-pub invariant-of-result : goal.invariant-of-result
-invariant-of-result c = (
-  (lit≤ tt, lit≤ tt),
-  (
-    (lit≤ tt, lit≤ tt),
-    (
-      lit≤ tt,
-      (
-        (lit≤ tt, lit≤ tt),
-        (
-          lit≤ tt,
-          (
-            refl,
-            (
-              refl,
-              (
-                c.sent-marks.ensures,
-                (builtin-lawful.informed, (builtin-lawful.checked, (builtin-lawful.unbarred, (builtin-lawful.beyond, tt)))),
-              ),
-            ),
-          ),
-        ),
-      ),
-    ),
-  ),
-)
+pub invariant_of-result : goal.invariant_of-result
+invariant_of-result c = record {
+  sized = (lit≤ tt, lit≤ tt);
+  paid = (lit≤ tt, lit≤ tt);
+  guarded = lit≤ tt;
+  aired = (lit≤ tt, lit≤ tt);
+  lowered = lit≤ tt;
+  paired = refl;
+  moded = refl;
+  marked = c.sent_marks.ensures;
+  informed = builtin-lawful.informed;
+  checked = builtin-lawful.checked;
+  unbarred = builtin-lawful.unbarred;
+  beyond = builtin-lawful.beyond;
+}
 
 pub returns : goal.returns
 returns c = record {

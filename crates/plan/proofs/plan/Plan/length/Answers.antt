@@ -6,6 +6,6 @@ pub returns : goal.returns
 returns c =
     let plan = c.args.self.now in
     record {
-      result = c.block-length.ensures;
-      limits = omega (arith, c.block-length.ensures, pow_mono plan.sized.0, pow_mono plan.sized.1);
+      result = c.block_length.ensures;
+      limits = omega (arith, c.block_length.ensures, pow_mono plan.sized.0, pow_mono plan.sized.1);
     }

@@ -6,7 +6,7 @@ use Rattle.sender.proofs.sending.spelling.bits_of.Goals as goal
 
 pub loop-i-preserved : goal.loop-i-preserved
 loop-i-preserved c =
-    c.in-ok-push.ensures.items
+    c.in_ok-push.ensures.items
     ∙ ap (λ (xs : List Bool). xs ++ (eqb (get_or c.args.bytes.now c.loop-i.i 0) 1 ∷ [])) c.loop-i.invariant
     ∙ sym (map_more (λ b. eqb b 1) c.args.bytes.now c.loop-i.i 0 (omega arith))
 

@@ -12,8 +12,8 @@ returns c =
     let most = longest-most c.args.check in
     let more = bits_most c.args.check in
     omega arith in
-    c.in-ok-from-slice.ensures.items
-    ∙ finished-is c.args.check c.args.payload.now c.as-slice.result.now _ c.finish-under.new.word c.finish-under.result
-    (c.as-slice.ensures.value ∙ c.in-ok-bits.ensures) c.requires.taken
+    c.in_ok-from_slice.ensures.items
+    ∙ finished-is c.args.check c.args.payload.now c.as_slice.result.now _ c.finish_under.new.word c.finish_under.result
+    (c.as_slice.ensures.value ∙ c.in_ok-bits.ensures) c.requires.taken
     (front_length _ (length c.args.payload.now + c.from.result) few ∙ ap (λ (l : ℕ). length c.args.payload.now + l) bits)
-    c.finish-under.ensures.result c.finish-under.ensures.output
+    c.finish_under.ensures.result c.finish_under.ensures.output

@@ -14,8 +14,8 @@ loop-slot-preserved c =
     let lt : i < length xs = omega arith in
     let later : i < i + 1 = omega arith in
     let ordered : in_order before (drop i xs) ≡ true = ap (in_order before) rest ∙ in-order-drop before i c.args.slots.now c.requires.ordered in (
-      squeeze-more before _ xs i c.loop-slot.last _ c.in-turn.result.0 c.in-turn.result.1 lt ordered c.in-turn.ensures.first c.in-turn.ensures.second c.loop-slot.invariant.0,
-      drop-set-lt (i + 1) xs i c.in-turn.result.0 later ∙ sym (drop-drop 1 i xs) ∙ ap (drop 1) rest ∙ drop-drop 1 i c.args.slots.now,
+      squeeze-more before _ xs i c.loop-slot.last _ c.in_turn.result.0 c.in_turn.result.1 lt ordered c.in_turn.ensures.first c.in_turn.ensures.second c.loop-slot.invariant.0,
+      drop-set-lt (i + 1) xs i c.in_turn.result.0 later ∙ sym (drop-drop 1 i xs) ∙ ap (drop 1) rest ∙ drop-drop 1 i c.args.slots.now,
     )
 
 pub returns : goal.returns

@@ -7,4 +7,4 @@ use Rattle.heap.proofs.binary.calls.HeapStore.holds_row.Goals as goal
 pub returns : goal.returns
 returns c =
     let s = c.args.self.now in
-    record { result = c.row-among.ensures.result ∙ ap (holds_row c.args.row) (part-is-front s.len s.slots) ∙ sym (holds-sorted c.args.row _) }
+    record { result = c.row_among.ensures.result ∙ ap (holds_row c.args.row) (part-is-front s.len s.slots) ∙ sym (holds-sorted c.args.row _) }

@@ -39,13 +39,16 @@ rise-requires c =
       rising = rising_part (added s c.args.c c.if-self.true) (s.len + 1) long s.len (rising-at-end s.slots s.len c.args.c s.heaped);
     }
 
-pub invariant-of-self : goal.invariant-of-self
-invariant-of-self c =
+pub invariant_of-self : goal.invariant_of-self
+invariant_of-self c =
     let s = c.args.self.now in
-    let long = fits s c.args.c c.if-self.true in (
-      back_whole _ (s.len + 1) long _ c.rise.auto.slots ∙ length-set _ _ _ ∙ s.whole,
-      (omega arith, (s.least, (s.most, (back-heaped _ (s.len + 1) long _ c.rise.auto.slots c.rise.ensures.heaped, tt)))),
-    )
+    let long = fits s c.args.c c.if-self.true in record {
+      whole = back_whole _ (s.len + 1) long _ c.rise.auto.slots ∙ length-set _ _ _ ∙ s.whole;
+      within = omega arith;
+      least = s.least;
+      most = s.most;
+      heaped = back-heaped _ (s.len + 1) long _ c.rise.auto.slots c.rise.ensures.heaped;
+    }
 
 pub returns-then-self : goal.returns-then-self
 unfolding lowered
@@ -97,7 +100,7 @@ pub returns-then-not-before : goal.returns-then-not-before
 returns-then-not-before c =
     let s = c.args.self.now in
     let full = c.if-self.false in
-    let found = c.last-from-place.ensures in
+    let found = c.last_from-place.ensures in
     let long = kept-length s.slots s.len (short s c.args.c full _ found) in
     let ends = newcomer-shed s c.args.c full _ found (sym c.if-not-before.ensures.result) in
     record {
@@ -110,8 +113,8 @@ pub rise-requires-2 : goal.rise-requires-2
 rise-requires-2 c =
     let s = c.args.self.now in
     let full = c.if-self.false in
-    let p = c.last-from-place.result in
-    let found = c.last-from-place.ensures in
+    let p = c.last_from-place.result in
+    let found = c.last_from-place.ensures in
     let size = same_length s c.args.c full p found in
     let here = within s c.args.c full p found in
     let below : p < length s.slots = omega (arith, here) in
@@ -120,19 +123,22 @@ rise-requires-2 c =
       rising = rising_part (set s.slots p c.args.c) s.len size p (rising-in-place s.slots s.len p c.args.c here below (sym c.if-not-before.ensures.result) s.heaped);
     }
 
-pub invariant-of-self-2 : goal.invariant-of-self-2
-invariant-of-self-2 c =
+pub invariant_of-self-2 : goal.invariant_of-self-2
+invariant_of-self-2 c =
     let s = c.args.self.now in
-    let size = same_length s c.args.c c.if-self.false _ c.last-from-place.ensures in (
-      back_whole _ s.len size _ c.rise-2.auto.slots ∙ length-set _ _ _ ∙ s.whole,
-      (s.within, (s.least, (s.most, (back-heaped _ s.len size _ c.rise-2.auto.slots c.rise-2.ensures.heaped, tt)))),
-    )
+    let size = same_length s c.args.c c.if-self.false _ c.last_from-place.ensures in record {
+      whole = back_whole _ s.len size _ c.rise-2.auto.slots ∙ length-set _ _ _ ∙ s.whole;
+      within = s.within;
+      least = s.least;
+      most = s.most;
+      heaped = back-heaped _ s.len size _ c.rise-2.auto.slots c.rise-2.ensures.heaped;
+    }
 
 pub returns : goal.returns
 returns c =
     let s = c.args.self.now in
     let full = c.if-self.false in
-    let found = c.last-from-place.ensures in
+    let found = c.last_from-place.ensures in
     let size = same_length s c.args.c full _ found in
     let long = kept-length _ s.len size in
     let ends = last-shed s c.args.c full _ found (sym c.if-not-before.ensures.result) in

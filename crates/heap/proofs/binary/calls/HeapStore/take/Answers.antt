@@ -38,13 +38,16 @@ sink-requires c =
     let some = c.if-self-eq0.false in
     record { sinking = sinking-part (moved s some) (s.len - 1) (fits s some) 0 (sinking-in-front s.slots s.len _ s.heaped) }
 
-pub invariant-of-self : goal.invariant-of-self
-invariant-of-self c =
+pub invariant_of-self : goal.invariant_of-self
+invariant_of-self c =
     let s = c.args.self.now in
-    let some = c.if-self-eq0.false in (
-      back_whole (moved s some) (s.len - 1) (fits s some) _ c.sink.auto.slots ∙ length-set _ _ _ ∙ s.whole,
-      (omega arith, (s.least, (s.most, (back-heaped (moved s some) (s.len - 1) (fits s some) _ c.sink.auto.slots c.sink.ensures.heaped, tt)))),
-    )
+    let some = c.if-self-eq0.false in record {
+      whole = back_whole (moved s some) (s.len - 1) (fits s some) _ c.sink.auto.slots ∙ length-set _ _ _ ∙ s.whole;
+      within = omega arith;
+      least = s.least;
+      most = s.most;
+      heaped = back-heaped (moved s some) (s.len - 1) (fits s some) _ c.sink.auto.slots c.sink.ensures.heaped;
+    }
 
 pub returns : goal.returns
 unfolding lowered

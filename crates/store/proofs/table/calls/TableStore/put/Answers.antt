@@ -57,38 +57,44 @@ module _
     full-shed : t.capacity ≤ t.len → drop t.capacity all ≡ last ∷ []
     full-shed h = full-sheds all ys last t.capacity (full-length h) (sym squeezed)
 
-pub invariant-of-self : goal.invariant-of-self
-invariant-of-self c =
+pub invariant_of-self : goal.invariant_of-self
+invariant_of-self c =
     let t = c.args.self.now in
-    let e = c.squeeze-in-last.ensures in (
-      length-set _ _ _ ∙ whole t _ _ _ e,
-      (omega arith, (t.least, (t.most, (ap (in_order before) (room t _ _ _ e c.if-self.true) ∙ ordered t _ _ _ e, tt)))),
-    )
+    let e = c.squeeze_in-last.ensures in record {
+      whole = length-set _ _ _ ∙ whole t _ _ _ e;
+      within = omega arith;
+      least = t.least;
+      most = t.most;
+      ordered = ap (in_order before) (room t _ _ _ e c.if-self.true) ∙ ordered t _ _ _ e;
+    }
 
 pub returns-then-self : goal.returns-then-self
 unfolding lowered
 returns-then-self c =
     let t = c.args.self.now in
-    let e = c.squeeze-in-last.ensures in
+    let e = c.squeeze_in-last.ensures in
     record {
       kept = room t _ _ _ e c.if-self.true ∙ sym (room-stay t _ _ _ e c.if-self.true);
       capacity = refl;
       floor = sym (ap (lowered metric_of t.floor) (room-shed t _ _ _ e c.if-self.true));
     }
 
-pub invariant-of-self-2 : goal.invariant-of-self-2
-invariant-of-self-2 c =
+pub invariant_of-self-2 : goal.invariant_of-self-2
+invariant_of-self-2 c =
     let t = c.args.self.now in
-    let e = c.squeeze-in-last.ensures in (
-      whole t _ _ _ e,
-      (t.within, (t.least, (t.most, (ap (in_order before) (full-stay t _ _ _ e c.if-self.false) ∙ in-order-take before t.capacity _ (ordered t _ _ _ e), tt)))),
-    )
+    let e = c.squeeze_in-last.ensures in record {
+      whole = whole t _ _ _ e;
+      within = t.within;
+      least = t.least;
+      most = t.most;
+      ordered = ap (in_order before) (full-stay t _ _ _ e c.if-self.false) ∙ in-order-take before t.capacity _ (ordered t _ _ _ e);
+    }
 
 pub returns : goal.returns
 unfolding lowered
 returns c =
     let t = c.args.self.now in
-    let e = c.squeeze-in-last.ensures in
+    let e = c.squeeze_in-last.ensures in
     record {
       kept = full-stay t _ _ _ e c.if-self.false;
       capacity = refl;

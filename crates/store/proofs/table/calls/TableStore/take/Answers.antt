@@ -34,14 +34,17 @@ module _ (s : Table) (some : s.len ≡ 0 → ⊥) where
   closed : (after : List Candidate) → after ≡ paste s.slots 0 (drop 1 s.slots) (s.len - 1) → take (s.len - 1) after ≡ others
   closed after e = ap (take (s.len - 1)) e ∙ closed-up s.len s.slots (omega (arith, some)) (omega arith)
 
-pub invariant-of-self : goal.invariant-of-self
-invariant-of-self c =
+pub invariant_of-self : goal.invariant_of-self
+invariant_of-self c =
     let s = c.args.self.now in
     let some = c.if-self-eq0.false in
-    let ordered = in-order-tail before (first s some) (others s some) (sym (ap (in_order before) (split s some)) ∙ s.ordered) in (
-      c.copy-within.ensures.len ∙ s.whole,
-      (omega arith, (s.least, (s.most, (ap (in_order before) (closed s some _ c.copy-within.ensures.after) ∙ ordered, tt)))),
-    )
+    let ordered = in-order-tail before (first s some) (others s some) (sym (ap (in_order before) (split s some)) ∙ s.ordered) in record {
+      whole = c.copy_within.ensures.len ∙ s.whole;
+      within = omega arith;
+      least = s.least;
+      most = s.most;
+      ordered = ap (in_order before) (closed s some _ c.copy_within.ensures.after) ∙ ordered;
+    }
 
 pub returns : goal.returns
 unfolding lowered
@@ -50,7 +53,7 @@ returns c =
     let some = c.if-self-eq0.false in
     record {
       result = sym (ap (λ xs. (takes xs).answer) (split s some));
-      kept = closed s some _ c.copy-within.ensures.after ∙ sym (ap (λ xs. (takes xs).stays) (split s some));
+      kept = closed s some _ c.copy_within.ensures.after ∙ sym (ap (λ xs. (takes xs).stays) (split s some));
       capacity = refl;
       floor = sym (ap (λ xs. lowered metric_of s.floor (takes xs).shed) (split s some));
     }
