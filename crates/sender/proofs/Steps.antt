@@ -13,7 +13,7 @@ use Rattle.code.specs.Laying.{plan_of, laid_at, bits_of, Fresh, Filled}
 use Rattle.code.specs.Sending.{coded_plan, coded_at, byte_of, Transforms, SentBits, sending_verdict}
 use Rattle.code.specs.declared.coded.Coded.{Coded}
 use Rattle.code.specs.declared.laid.Laid.{Laid}
-use Rattle.outer.specs.Lengths.{fitting}
+use Rattle.crc.specs.Lengths.{fitting}
 use Rattle.plan.proofs.Sent.{plan-bounded, place_inside}
 use Rattle.plan.specs.Order.{sent_place}
 use Rattle.plan.specs.Plans.{kind_at, log_length, block_length, sent_bits, payload_bits, place_of}

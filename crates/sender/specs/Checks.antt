@@ -3,9 +3,9 @@ use Rattle.std.specs.Prelude.{Bool, List}
 use Rattle.block.specs.declared.code.CheckCode.{CheckCode}
 use Rattle.block.specs.declared.code.CheckCode.TheVariants as check
 use Rattle.outer.specs.declared.trailing.Trailing.TheVariants as trailing
-use Rattle.outer.specs.declared.spread.Spread.TheVariants as spread
+use Rattle.crc.specs.declared.spread.Spread.TheVariants as spread
 use Rattle.outer.specs.Trailing.{followed}
-use Rattle.outer.specs.Spread.{interleaved}
+use Rattle.crc.specs.Spread.{interleaved}
 
 abbrev pub finished_by : CheckCode → List Bool → List Bool
 finished_by check.None payload = payload

@@ -28,7 +28,7 @@ impl<S: Store, C: Judge> Decoder<S, C> {
     // Whether the check calls the information bits of the first len bits in a row hopeless.
     fn hopeless_beginning(&self, row: u8, len: usize) -> bool
         requires size { len ≤ 1024 }
-        ensures { result ≡ hopeless self.now.check (payload_bits (plan_in self.now.block)) (information_from (kinds_of (plan_in self.now.block)) 0 (first_bits (path_at self.now.rows row) len)) }
+        ensures { result ≡ C.hopeless self.now.check (payload_bits (plan_in self.now.block)) (information_from (kinds_of (plan_in self.now.block)) 0 (first_bits (path_at self.now.rows row) len)) }
     {
         if !self.check.watches() {
             return false;
@@ -43,7 +43,7 @@ impl<S: Store, C: Judge> Decoder<S, C> {
     // Whether the child in a row, whose last bit is at position i, is left out.
     fn left_out(&self, row: u8, i: usize) -> bool
         requires size { i < 1024 }
-        ensures { result ≡ (is_information (kinds_of (plan_in self.now.block) i) && hopeless self.now.check (payload_bits (plan_in self.now.block)) (information_from (kinds_of (plan_in self.now.block)) 0 (first_bits (path_at self.now.rows row) (i + 1)))) }
+        ensures { result ≡ (is_information (kinds_of (plan_in self.now.block) i) && C.hopeless self.now.check (payload_bits (plan_in self.now.block)) (information_from (kinds_of (plan_in self.now.block)) 0 (first_bits (path_at self.now.rows row) (i + 1)))) }
     {
         is_information(self.block.plan(), i) && self.hopeless_beginning(row, i + 1)
     }

@@ -3,7 +3,7 @@ ghost use Rattle.std.specs.Prelude.{◌≡◌, ◌≤◌, map, length, IfOk, if�
 ghost use Rattle.std.specs.List.{range_with_len};
 ghost use Rattle.block.specs.Codes.{check_bits, longest_payload};
 ghost use Rattle.code.specs.Laying.{bits_of, laid_at};
-ghost use Rattle.outer.specs.Lengths.{fitting};
+ghost use Rattle.crc.specs.Lengths.{fitting};
 ghost use Rattle.sender.specs.Checks.{finished_by};
 ghost use Rattle.sender.specs.Sends.{SentFor};
 

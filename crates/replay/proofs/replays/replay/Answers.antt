@@ -21,8 +21,8 @@ returns-in-Err g c =
 
 pub loop-call-init : goal.loop-call-init
 loop-call-init g c =
-    let (items, (len, cap)) = c.in-Ok.ensures.made in
-    (remains-all _ _ (vec_items c.in-Ok.answers) c.args.scratch.now c.args.output.now items, c.new-decoder.ensures.coherent, refl, len, cap)
+    let made = c.in-Ok.ensures in
+    (remains-all _ _ (vec_items c.in-Ok.answers) c.args.scratch.now c.args.output.now made.items, c.new-decoder.ensures.coherent, refl, made.len, made.capacity)
 
 pub push_reserved-requires : goal.push_reserved-requires
 push_reserved-requires g c =

@@ -11,7 +11,7 @@ use Rattle.sender.proofs.sending.spelled.Goals as goal
 pub returns-in_err-sent : goal.returns-in_err-sent
 returns-in_err-sent c =
     let coded = code_is c.args.plan c.args.request.now c.args.word c.transform-code.result c.requires.laid c.transform-code.ensures in
-    let p = err_from_is_err_and c.from-residual-in_err-sent.result c.from-residual-in_err-sent.ensures.1 in
+    let p = err_from_is_err_and c.from_residual-in_err-sent.result c.from_residual-in_err-sent.ensures.1 in
     rw (p.1, p.2)
     (code-fails c.args.plan c.args.request.now c.transform-code.result c.in_err-sent.field-0.0 c.requires.planned coded c.in_err-sent.ensures)
 

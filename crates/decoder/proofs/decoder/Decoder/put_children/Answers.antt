@@ -47,7 +47,7 @@ returns-in-Parity g c =
     to_z-of_z w32 c.decision-value.result fits ∙ c.decision-value.ensures.value ∙ ap (λ v. decision (log_length p) (llr_in d.block) v i) c.path-path.ensures in
     let kind : kinds_of p i ≡ parity = ap kind_of (ap (λ q. kind_at q i) (sym c.plan.ensures) ∙ sym c.kind.ensures ∙ c.in-Parity.is) in
     let sum : bit ≡ parity_bit (kinds_of p) (first_bits u i) i =
-    c.parity_sum-bit.ensures ∙ ap₂ (λ q v. parity_bit (kinds_of q) (first_bits v i) i) c.plan_in-Parity.ensures c.path-path.ensures in
+    c.parity_sum-bit.ensures ∙ ap₂ (λ q v. parity_bit (kinds_of q) (first_bits v i) i) c.plan-in-Parity.ensures c.path-path.ensures in
     let m = meanings g.S.Store.kept g.S.Store.capacity g.S.Store.floor g.C.Judge.accepted g.C.Judge.hopeless g.C.Judge.carried in
     record {
       model = λ ready small metric.

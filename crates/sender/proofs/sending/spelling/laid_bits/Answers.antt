@@ -7,7 +7,7 @@ use Rattle.code.specs.Laying.{laid_at}
 use Rattle.sender.proofs.sending.spelling.laid_bits.Goals as goal
 
 pub returns-in_err-push : goal.returns-in_err-push
-returns-in_err-push c = IfOk-from_err c.from-residual.result _ c.from-residual.ensures.0
+returns-in_err-push c = IfOk-from_err c.from_residual.result _ c.from_residual.ensures.0
 
 pub loop-i-preserved : goal.loop-i-preserved
 loop-i-preserved c =
