@@ -1,13 +1,12 @@
 -- Two positions of two paths have their levels in common from the block on in which both stand, if the paths agree before
 -- it; and levels that are in place are small. Assumes nothing.
-use Rattle.std.proofs.Common.{◌≡◌, ℕ, zero, suc, ◌+◌, ◌-◌, ◌*◌, ◌/◌, ◌%◌, ◌^◌, ◌<◌, ◌≤◌, Bool, true, false, eqb, List, get_or, ℤ, pos, nat_abs, sym, refl, ap, ◌∙◌, subst, ap₂, ⊎_elim, mul-le-mul_right, mul_assoc, mul_comm, div-mul-le_self, arith}
+use Rattle.std.proofs.Common.{◌≡◌, ℕ, zero, suc, ◌+◌, ◌-◌, ◌*◌, ◌/◌, ◌%◌, ◌^◌, ◌<◌, ◌≤◌, Bool, true, false, eqb, List, ℤ, nat_abs, sym, refl, ap, ◌∙◌, subst, ap₂, ⊎_elim, mul-le-mul_right, mul_assoc, mul_comm, div-mul-le_self, arith}
 use Rattle.std.proofs.lemmas.Nat.{pow-add, shr-shr}
 use Rattle.std.proofs.lemmas.Bool.{cases_Bool, cond-true, cond-false, eqb-false}
 use Rattle.base.specs.Transform.{code_bit}
 use Rattle.base.proofs.Transform.{code-bit-same}
 use Rattle.cost.specs.Values.{g}
 use Rattle.cost.specs.Path.{from}
-use Rattle.cost.specs.Laws.{Agree}
 use Rattle.cost.specs.Levels.{start, halved, level, Levels, Filled, Shared}
 use Rattle.cost.proofs.Levels.{halved-le, start-halves}
 use Rattle.cost.proofs.Descent.{Descent}

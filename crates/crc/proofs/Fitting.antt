@@ -1,6 +1,5 @@
 -- What the test of lengths tells. Assumes nothing.
-use Rattle.std.proofs.Common.{◌≡◌, ℕ, ◌+◌, ◌≤◌, true, false, arith}
-use Rattle.std.proofs.lemmas.Bool.Decides.{nat_tests}
+use Rattle.std.proofs.Common.{◌≡◌, ℕ, ◌+◌, ◌≤◌, true, false}
 use Rattle.std.proofs.lemmas.Bool.{and_parts, leb-true, eqb-true, and_from, le-leb, eq-eqb, both_ways}
 use Rattle.crc.specs.Lengths.{fitting}
 

@@ -1,11 +1,11 @@
 -- Sums and tests over a word that was gathered through an order. Assumes nothing.
-use Rattle.std.proofs.Common.{◌≡◌, ℕ, zero, suc, ◌+◌, ◌-◌, ◌<◌, ◌≤◌, Bool, true, false, cond, not, ◌&&◌, ◌||◌, eqb, ltb, leb, List, [], ◌∷◌, ◌++◌, map, length, get_or, sym, refl, ap, ◌∙◌, ap₂, ⊎_elim, arith}
+use Rattle.std.proofs.Common.{◌≡◌, ℕ, zero, suc, ◌<◌, Bool, true, false, ◌&&◌, eqb, ltb, List, [], ◌∷◌, map, length, get_or, sym, refl, ap, ◌∙◌, ap₂, ⊎_elim, arith}
 use mathlib.Core.Bool.{xor}
 use Rattle.std.proofs.lemmas.Bool.{lt-ltb, le-ltb, ne_eqb, eq-eqb, cases_lt, cases_eq, or_parts, or_from}
 use Rattle.base.specs.Counts.{xor_below}
 use Rattle.crc.specs.Spread.{sum_into, some_bit}
-use Rattle.base.proofs.Transform.{xor_assoc, xor-false-r, xor-false-l}
-use Rattle.crc.proofs.Xors.{xor_comm, xor-middle}
+use Rattle.base.proofs.Transform.{xor-false-r, xor-false-l}
+use Rattle.crc.proofs.Xors.{xor-middle}
 use Rattle.crc.proofs.Occurrences.{occurrences, counted}
 
 sum-false : (f : ℕ → Bool) (ks : List ℕ) (bs : List Bool) → ((k : ℕ) → f k ≡ false) → sum_into f ks bs ≡ false

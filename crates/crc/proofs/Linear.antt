@@ -1,11 +1,11 @@
 -- The remainder is linear: it is the sum of the remainders of the payload's single ones. Assumes nothing.
-use Rattle.std.proofs.Common.{◌≡◌, ℕ, zero, suc, ◌+◌, ◌-◌, ◌<◌, ◌≤◌, Bool, true, false, cond, ◌&&◌, List, [], ◌∷◌, ◌++◌, length, get_or, replicate, sym, refl, ap, ◌∙◌, ap₂, arith, length-append}
+use Rattle.std.proofs.Common.{◌≡◌, ℕ, zero, suc, ◌+◌, ◌-◌, Bool, true, false, cond, ◌&&◌, List, [], ◌∷◌, ◌++◌, length, get_or, replicate, sym, refl, ap, ◌∙◌, ap₂, arith, length-append}
 use mathlib.Core.Bool.{xor}
 use lib.ListN.{length-replicate}
 use Rattle.base.specs.Counts.{xor_below}
 use Rattle.crc.specs.Division.{added, divided, remainder}
 use Rattle.crc.proofs.Remainders.{length-added, length-remainder}
-use Rattle.base.proofs.Transform.{xor_assoc, xor-false-r, xor-false-l, xor-below-same}
+use Rattle.base.proofs.Transform.{xor_assoc, xor-false-l, xor-below-same}
 use Rattle.crc.proofs.Xors.{xor_comm, xor_same, and-true, and-false, xor_below-first}
 
 -- additions in either order

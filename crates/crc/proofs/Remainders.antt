@@ -1,10 +1,10 @@
 -- Lengths of a long division, its steps in place, and equality of bits as a test. Assumes nothing.
-use Rattle.std.proofs.Common.{◌≡◌, ℕ, zero, suc, ◌+◌, ◌-◌, ◌<◌, ◌≤◌, Bool, true, false, cond, not, ◌&&◌, List, [], ◌∷◌, ◌++◌, length, get_or, take, drop, set, replicate, Decides, sym, refl, ap, ◌∙◌, suc-le-suc, zero-le, arith, length-append, rules}
+use Rattle.std.proofs.Common.{◌≡◌, ℕ, zero, suc, ◌+◌, ◌-◌, ◌<◌, ◌≤◌, Bool, true, false, cond, not, List, [], ◌∷◌, ◌++◌, length, get_or, take, drop, set, replicate, Decides, sym, refl, ap, ◌∙◌, arith, length-append}
 use mathlib.Core.Bool.{xor, beq}
 use lib.ListN.{length-replicate}
-use borrow.Rule.Slice.PartMut.{put_mid, post_of}
+use borrow.Rule.Slice.PartMut.{put_mid}
 use Rattle.std.proofs.lemmas.List.{take_more_set, drop_more, drop-set-lt, append_assoc, append-nil, drop_at, drop_all, length-take-le, length-drop, take_rest}
-use Rattle.crc.specs.Division.{listed, coefficients, added, divided, remainder, same_bits}
+use Rattle.crc.specs.Division.{coefficients, added, divided, remainder, same_bits}
 
 pub length-coefficients : (ps : List ℕ) (l : ℕ) → length (coefficients ps l) ≡ l
 unfolding coefficients

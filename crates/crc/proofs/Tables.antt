@@ -1,5 +1,5 @@
 -- The tables of the code, and by computing that they are the definition's rows and order. Assumes nothing.
-use Rattle.std.proofs.Common.{◌≡◌, ℕ, zero, suc, ◌+◌, ◌-◌, ◌/◌, ◌%◌, ◌<◌, Bool, true, ◌&&◌, eqb, ltb, List, [], ◌∷◌, map, length, refl, ap, ◌∙◌}
+use Rattle.std.proofs.Common.{◌≡◌, ℕ, zero, suc, ◌+◌, ◌/◌, ◌%◌, ◌<◌, Bool, true, ◌&&◌, eqb, ltb, List, [], ◌∷◌, map, length, refl, ap, ◌∙◌}
 use mathlib.Core.Bool.{xor}
 use Rattle.base.specs.Counts.{any_below, all_below}
 use Rattle.std.proofs.lemmas.Bool.{eqb-true}

@@ -1,10 +1,9 @@
 -- The turns of the loops of the spread check, over the table of its longest word. Assumes nothing.
-use Rattle.std.proofs.Common.{◌≡◌, ℕ, zero, suc, ◌+◌, ◌-◌, ◌/◌, ◌%◌, ◌^◌, ◌<◌, ◌≤◌, Bool, true, false, cond, not, ◌&&◌, ◌||◌, eqb, ltb, leb, List, [], ◌∷◌, ◌++◌, map, length, get_or, take, drop, set, sym, refl, ap, ◌∙◌, ap₂, ⊎_elim, arith}
+use Rattle.std.proofs.Common.{◌≡◌, ℕ, suc, ◌+◌, ◌-◌, ◌/◌, ◌^◌, ◌<◌, ◌≤◌, Bool, true, false, not, ◌&&◌, ◌||◌, eqb, ltb, leb, List, [], ◌∷◌, ◌++◌, map, length, get_or, take, drop, set, sym, refl, ap, ◌∙◌, ap₂, arith}
 use mathlib.Core.Bool.{xor, beq}
 use lib.Bits.{bit_and, and_mask}
 use Rattle.base.specs.Counts.{xor_below}
-use Rattle.std.specs.List.{range_with_len}
-use Rattle.std.proofs.lemmas.List.{drop_more, drop_all, take_more_set, take_all, append-nil, append_assoc, length-map, length-take, length-append, length-set}
+use Rattle.std.proofs.lemmas.List.{drop_more, drop_all, take_more_set, take_all, append-nil, append_assoc, length-take, length-append}
 use Rattle.std.proofs.lemmas.List.FromFn.{fill_by_all}
 use Rattle.std.proofs.lemmas.Bool.{lt-ltb, le-leb, or_left}
 use Rattle.std.proofs.lemmas.Bool.Decides.{nat_tests}
@@ -16,7 +15,7 @@ use Rattle.crc.proofs.Xors.{xor_comm}
 use Rattle.crc.proofs.Remainders.{unlike-xor}
 use Rattle.crc.proofs.Occurrences.{occurrences, struck-in, struck-out, struck-nil, gathered}
 use Rattle.crc.proofs.Walks.{walk, walk_same}
-use Rattle.crc.proofs.Tables.{places, placed-places, places-long, enters_longest}
+use Rattle.crc.proofs.Tables.{placed-places, places-long}
 use Rattle.base.proofs.Bits.{bit-zero}
 use Rattle.crc.proofs.Scatters.{scattered, length-scattered, scattered-at}
 use Rattle.crc.proofs.Interleaving.{order-long, order-once, order-each, enters-struck, broken-walk, checks-sum, whole, whole-check, whole-payload, length-interleaved}

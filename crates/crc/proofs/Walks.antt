@@ -1,10 +1,10 @@
 -- A beginning judged bit by bit with running sums, which is how the code judges it: that is the definition's test where
 -- every payload bit that enters a check bit stands before it. Assumes nothing.
-use Rattle.std.proofs.Common.{◌≡◌, ℕ, zero, suc, ◌+◌, ◌-◌, ◌<◌, ◌≤◌, Bool, true, false, cond, not, ◌&&◌, ◌||◌, eqb, ltb, leb, List, [], ◌∷◌, ◌++◌, map, length, get_or, take, sym, refl, ap, ◌∙◌, ap₂, ⊎_elim, arith}
+use Rattle.std.proofs.Common.{◌≡◌, ℕ, zero, suc, ◌+◌, ◌-◌, ◌≤◌, Bool, true, false, not, ◌&&◌, ◌||◌, ltb, leb, List, [], ◌∷◌, take, sym, refl, ap, ◌∙◌, ap₂, ⊎_elim, arith}
 use mathlib.Core.Bool.{xor}
-use Rattle.std.proofs.lemmas.Bool.{le-leb, lt-leb, lt-ltb, le-ltb, leb-true, cases_lt, cases_Bool, and_parts, and_from, or_parts, or_cases, or_from, or_right, or_left, not-true, not_from_false, both_ways}
+use Rattle.std.proofs.lemmas.Bool.{lt-leb, lt-ltb, le-ltb, cases_lt, and_parts, and_from, or_parts, or_cases, or_from, or_right, or_left, not-true, both_ways}
 use Rattle.crc.specs.Spread.{struck, sum_into, some_bit}
-use Rattle.base.proofs.Transform.{xor_assoc, xor-false-r, xor-false-l}
+use Rattle.base.proofs.Transform.{xor_assoc, xor-false-r}
 use Rattle.crc.proofs.Occurrences.{struck-in, struck-out, struck-nil}
 
 -- a is the number of payload bits, M j k says whether payload bit k enters check bit j, acc has the sums so far

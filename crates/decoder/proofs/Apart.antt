@@ -1,5 +1,5 @@
 -- No two kept candidates share a row, also after a put of one whose row is free. Assumes nothing.
-use Rattle.std.proofs.Common.{◌≡◌, ℕ, zero, suc, Bool, true, false, cond, ◌||◌, eqb, List, [], ◌∷◌, take, sym, refl, ap, ◌∙◌, subst}
+use Rattle.std.proofs.Common.{◌≡◌, ℕ, zero, suc, true, false, cond, eqb, List, [], ◌∷◌, take, sym, refl, subst}
 use Rattle.std.proofs.lemmas.Bool.{or_parts, or_from, ne_eqb, eqb-false}
 use Rattle.store.specs.declared.candidate.Candidate.{Candidate}
 use Rattle.store.specs.Meaning as store

@@ -1,13 +1,12 @@
 -- Which loads are granted, and what a store keeps right after one. Assumes nothing.
-use Rattle.std.proofs.Common.{◌≡◌, ℕ, ◌+◌, ◌^◌, ◌<◌, ◌≤◌, Bool, true, false, cond, ◌&&◌, eqb, leb, ◌⊎◌, List, [], length, get_or, ℤ, pos, Some, None, Option, sym, refl, ap, ◌∙◌, subst, ap₂, inl, inr, arith}
+use Rattle.std.proofs.Common.{◌≡◌, ℕ, ◌^◌, ◌≤◌, Bool, true, false, ◌&&◌, eqb, leb, List, length, ℤ, Some, None, sym, ap, ◌∙◌, ap₂}
 use mathlib.Core.Path.{fun_ext}
-use Rattle.std.proofs.lemmas.Bool.{and_parts, and_cases, cond-true, cond-false, le-leb, leb-true}
-use Rattle.base.specs.declared.refusal.Refusal.{Refusal}
+use Rattle.std.proofs.lemmas.Bool.{and_parts, cond-true, cond-false, le-leb, leb-true}
 use Rattle.base.specs.declared.refusal.Refusal.TheVariants as refusal
 use Rattle.cost.specs.Limits.{is_loadable, range_front}
 use Rattle.plan.specs.declared.plan.Plan.{Plan}
 use Rattle.plan.specs.Plans.{log_length, block_length}
-use Rattle.search.specs.Search.{between, value_refusal, within_limits, load_refusal}
+use Rattle.search.specs.Search.{between, value_refusal, load_refusal}
 use Rattle.model.specs.Blocks.{Meaning, block_of}
 use Rattle.decoder.specs.declared.limits.Limits.{Limits}
 use Rattle.decoder.specs.Limits.{limits_allowed}

@@ -1,10 +1,10 @@
 -- The state right after a granted load. Assumes nothing.
-use Rattle.std.proofs.Common.{◌≡◌, ℕ, ◌+◌, ◌*◌, ◌<◌, ◌≤◌, Bool, true, false, cond, ltb, List, [], ◌∷◌, Option, sym, refl, ap, ◌∙◌, subst, arith}
+use Rattle.std.proofs.Common.{◌≡◌, ℕ, ◌<◌, Bool, false, ltb, List, [], ◌∷◌, Option, sym, refl, ap, ◌∙◌, subst, arith}
 use mathlib.Core.Path.{fun_ext}
 use Rattle.std.proofs.lemmas.Bool.{cond-true, lt-ltb}
 use Rattle.search.specs.Lists.{Each}
-use Rattle.search.specs.Paths.{Block, lawful}
-use Rattle.search.specs.Stores.{Candidate, Contents, put_into, emptied_to, held_capacity, keeping_all, shedding_last}
+use Rattle.search.specs.Paths.{Block}
+use Rattle.search.specs.Stores.{Contents, put_into, emptied_to, held_capacity, keeping_all, shedding_last}
 use Rattle.search.specs.Search.{root}
 use Rattle.search.specs.Laws.{Exact}
 use Rattle.search.specs.Calls.{Blank}

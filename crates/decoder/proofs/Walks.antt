@@ -1,8 +1,7 @@
 -- The loops over scratch and over paths, one turn at a time. Assumes nothing.
-use Rattle.std.proofs.Common.{◌≡◌, ℕ, suc, ◌+◌, ◌%◌, ◌<◌, ◌≤◌, Bool, true, false, cond, not, ◌&&◌, eqb, List, [], ◌∷◌, ◌++◌, length, get_or, take, drop, set, replicate, sym, refl, ap, ◌∙◌, subst, ap₂, arith}
+use Rattle.std.proofs.Common.{◌≡◌, ℕ, suc, ◌+◌, ◌<◌, Bool, true, false, cond, not, List, [], ◌∷◌, ◌++◌, length, get_or, take, drop, set, replicate, sym, refl, ap, ◌∙◌, ap₂, arith}
 use mathlib.Core.Bool.{xor, beq}
 use Rattle.std.proofs.lemmas.List.{append_assoc, append-nil, drop_more, length-replicate, replicate_more, set_at, take_more_set}
-use Rattle.std.proofs.lemmas.Bool.{and_left, cond-true, cond-false}
 use Rattle.base.specs.Counts.{xor_below}
 use Rattle.search.specs.Paths.{Kind, is_information, information_from}
 use Rattle.model.specs.Reading.{first_bits}

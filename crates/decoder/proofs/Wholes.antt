@@ -1,23 +1,22 @@
 -- A whole step, from what its parts promise. Assumes nothing.
-use Rattle.std.proofs.Common.{◌≡◌, ℕ, suc, ◌+◌, ◌*◌, ◌^◌, ◌<◌, ◌≤◌, Bool, true, false, cond, eqb, List, [], ◌∷◌, map, length, ℤ, Some, None, Option, sym, refl, ap, ◌∙◌, subst, ap₂, arith}
+use Rattle.std.proofs.Common.{◌≡◌, ℕ, suc, ◌+◌, ◌*◌, ◌^◌, ◌<◌, ◌≤◌, Bool, true, eqb, List, [], ◌∷◌, map, length, Some, None, Option, sym, refl, ap, ◌∙◌, subst, ap₂, arith}
 use Rattle.std.proofs.lemmas.Bool.{cond-true, cond-false, eq-eqb, ne_eqb}
 use Rattle.cost.specs.Values.{contradicts}
-use Rattle.cost.specs.Path.{decision, cost}
+use Rattle.cost.specs.Path.{decision}
 use Rattle.cost.specs.Rows.{path_at}
 use Rattle.cost.proofs.Path.{cost-fits}
 use Rattle.plan.specs.Plans.{log_length, block_length}
 use Rattle.search.specs.Lists.{Each}
-use Rattle.search.specs.Paths.{Block, Kind, frozen, information, parity, choices, parity_bit, allowed, child}
-use Rattle.search.specs.Stores.{Contents, ruled, taken_from}
-use Rattle.search.specs.Calls as calls
-use Rattle.search.specs.Search.{put_child, put_children, after_take, judged, explored, step_from, step}
+use Rattle.search.specs.Paths.{Block, Kind, choices, parity_bit, allowed, child}
+use Rattle.search.specs.Stores.{ruled, taken_from}
+use Rattle.search.specs.Search.{put_children, after_take, judged, explored, step_from, step}
 use Rattle.search.specs.Laws.{Exact, AllExact}
 use Rattle.search.proofs.Lawful.{length-child, lawful-length}
 use Rattle.search.proofs.Rules.{rules-make-a-store}
 use Rattle.search.proofs.Exact.{stays-exact}
 use Rattle.store.specs.declared.candidate.Candidate.{Candidate}
 use Rattle.store.specs.Meaning as store
-use Rattle.model.specs.Blocks.{kinds_of, bits_of, path_cost, block_of}
+use Rattle.model.specs.Blocks.{kinds_of, bits_of, path_cost}
 use Rattle.model.specs.Reading.{first_bits, candidate_in, contents_in}
 use Rattle.model.proofs.Following.{same_read, take-follows}
 use Rattle.model.proofs.Children.{first-length, cost-first, cost-child}
@@ -26,7 +25,6 @@ use Rattle.decoder.specs.States.{Meanings, contents_of, loaded_of, RowsApart, Sh
 use Rattle.decoder.specs.Phases.{is_loaded}
 use Rattle.decoder.specs.Steps.{path_of, Ready, Costs, Framed, Searched}
 use Rattle.decoder.specs.declared.decoder.Decoder.{Decoder}
-use Rattle.decoder.specs.declared.phase.Phase.{Phase}
 use Rattle.decoder.specs.declared.phase.Phase.TheVariants as phase
 use Rattle.decoder.proofs.Apart.{apart-taken}
 

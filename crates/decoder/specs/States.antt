@@ -1,5 +1,5 @@
 -- The state of a decoder as the search's: kept candidates with the paths in their rows. Assumes nothing.
-use Rattle.std.specs.Prelude.{◌≡◌, ℕ, suc, ◌+◌, ◌*◌, ◌≤◌, Bool, true, false, List, [], ◌∷◌, Option}
+use Rattle.std.specs.Prelude.{◌≡◌, ℕ, ◌+◌, ◌*◌, ◌≤◌, Bool, true, false, List, [], ◌∷◌, Option}
 use Rattle.cost.specs.Rows.{path_at}
 use Rattle.plan.specs.Plans.{block_length, payload_bits}
 use Rattle.store.specs.declared.candidate.Candidate.{Candidate}

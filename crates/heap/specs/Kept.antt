@@ -4,13 +4,13 @@ use Rattle.std.proofs.Common.{arith, sym, ap, subst, ◌∙◌}
 use Rattle.std.proofs.Math.Seq.{take-set-lt}
 use Rattle.std.specs.List.{AllByRecursion as All}
 use Rattle.std.proofs.ByRecursion.{All-from_get_or, All-set}
-use Rattle.std.proofs.lemmas.List.{drop_all, drop_at, get_or-take, length-take-le, take_all, take_at, take_more, take_more_set}
+use Rattle.std.proofs.lemmas.List.{get_or-take, length-take-le, take_more, take_more_set}
 use Rattle.store.specs.declared.candidate.Candidate.{Candidate}
 use Rattle.store.specs.Meaning.{holds_row}
 use Rattle.store.specs.Order.{before}
 use Rattle.store.specs.Ordered.{inserted}
 use Rattle.store.proofs.Candidates.{strict}
-use Rattle.store.proofs.Inserts.{by-test, insert-after, insert-here, length_inserted, not-before-back, not-before-carries-over}
+use Rattle.store.proofs.Inserts.{by-test, insert-after, insert-here, not-before-back, not-before-carries-over}
 use Rattle.heap.specs.Shape.{at, NotBefore, Heaped}
 use Rattle.heap.specs.Sorting.{sorted}
 use Rattle.heap.specs.Fronts.{front-first}

@@ -1,19 +1,18 @@
 -- That a plan, soft values and a check make a lawful block, and what its words cost. Assumes nothing.
-use Rattle.std.proofs.Common.{◌≡◌, ℕ, suc, ◌^◌, ◌<◌, ◌≤◌, Bool, true, false, List, [], ◌∷◌, ◌++◌, length, get_or, take, ℤ, sym, refl, ap, ◌∙◌, subst, arith}
+use Rattle.std.proofs.Common.{◌≡◌, ℕ, ◌≤◌, Bool, false, List, [], ◌∷◌, ◌++◌, length, ℤ, sym, refl, ap, ◌∙◌, subst, arith}
 use Rattle.std.proofs.lemmas.List.{get_or_append_left, take_at}
-use Rattle.base.specs.Counts.{sum_below, count_below}
+use Rattle.base.specs.Counts.{sum_below}
 use Rattle.base.proofs.Counts.{count_same}
 use Rattle.cost.specs.Path.{cost}
 use Rattle.cost.proofs.Path.{never-falls, cost-looks-back, whole-path}
 use Rattle.plan.specs.declared.kind.Kind.{Kind}
 use Rattle.plan.specs.declared.kind.Kind.TheVariants.{Frozen, Information, Parity}
-use Rattle.plan.specs.declared.plan.Plan.{Plan}
 use Rattle.plan.specs.Plans.{log_length, block_length, payload_bits, kind_at}
 use Rattle.plan.specs.Kinds as kinds
-use Rattle.search.specs.Paths.{BlockLaws, child, is_information}
+use Rattle.search.specs.Paths.{child, is_information}
 use Rattle.search.proofs.Lawful.{length-child}
-use Rattle.model.specs.Blocks.{Meaning, kind_of, bits_of, path_cost, block_of}
-use Rattle.model.specs.Laws.{Hopeful, BlockIsLawful, WordCostsContradictions, WordsJudgedWhole}
+use Rattle.model.specs.Blocks.{kind_of, bits_of, path_cost}
+use Rattle.model.specs.Laws.{BlockIsLawful, WordCostsContradictions, WordsJudgedWhole}
 
 pub path-start : (n : ℕ) (llr : ℕ → ℤ) → path_cost n llr [] ≡ 0
 unfolding sum_below

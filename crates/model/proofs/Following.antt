@@ -1,5 +1,5 @@
 -- A store as it is read, followed from call to call by what each call promises. Assumes nothing.
-use Rattle.std.proofs.Common.{◌≡◌, ℕ, ◌<◌, ◌≤◌, Bool, List, [], length, Some, None, Option, sym, refl, ap, ◌∙◌, subst, ap₂, arith}
+use Rattle.std.proofs.Common.{◌≡◌, ℕ, ◌<◌, ◌≤◌, Bool, List, [], length, None, Option, sym, refl, ap, ◌∙◌, subst, ap₂, arith}
 use Rattle.search.specs.Lists.{Each}
 use Rattle.search.specs.Stores as search
 use Rattle.search.specs.Search.{root}

@@ -1,5 +1,5 @@
 -- That a store as it is read is the store of the rules. Assumes nothing.
-use Rattle.std.proofs.Common.{◌≡◌, ℕ, zero, suc, ◌<◌, ◌≤◌, min, max, Bool, true, false, cond, ◌&&◌, ◌||◌, eqb, ltb, leb, ◌⊎◌, List, [], ◌∷◌, ◌++◌, map, length, take, drop, Some, None, Option, sym, refl, ap, ◌∙◌, subst, ap₂, inl, inr, arith}
+use Rattle.std.proofs.Common.{◌≡◌, ℕ, zero, suc, ◌<◌, ◌≤◌, Bool, false, cond, ◌&&◌, eqb, ltb, List, [], ◌∷◌, map, length, take, drop, Some, None, Option, sym, refl, ap, ◌∙◌, ap₂, arith}
 use Rattle.std.proofs.lemmas.List.{length-map, length-drop, take-map, drop-map, take_all, drop_all}
 use Rattle.std.proofs.lemmas.Bool.{cond_both, ltb-true, ltb-false, or_parts}
 use Rattle.std.proofs.lemmas.Bool.Decides.{nat_tests}
@@ -10,11 +10,11 @@ use Rattle.search.specs.Stores as search
 use Rattle.store.specs.declared.candidate.Candidate.{Candidate}
 use Rattle.store.specs.Meaning as store
 use Rattle.store.specs.Lesser.{lesser_of}
-use Rattle.store.specs.Order.{before, lex}
+use Rattle.store.specs.Order.{before}
 use Rattle.store.specs.Ordered.{inserted}
 use Rattle.store.proofs.Inserts.{inserted-map, length_inserted}
 use Rattle.model.specs.Reading.{first_bits, candidate_in, contents_in}
-use Rattle.model.specs.Laws.{ReadsAsRuled, StoreReadsAsRuled}
+use Rattle.model.specs.Laws.{StoreReadsAsRuled}
 
 -- Order
 

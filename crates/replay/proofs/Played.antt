@@ -1,5 +1,5 @@
 -- One call played, from what the decoder promises of it. Assumes nothing.
-use Rattle.std.proofs.Common.{◌≡◌, ℕ, ◌-◌, ◌*◌, ◌≤◌, min, Bool, List, [], ◌++◌, map, length, take, drop, replicate, ℤ, pos, Some, None, Ok, Err, Option, sym, refl, ap, ◌∙◌, subst, ap₂, arith}
+use Rattle.std.proofs.Common.{◌≡◌, ℕ, ◌*◌, ◌≤◌, Bool, List, ◌++◌, map, length, take, drop, replicate, ℤ, pos, Some, None, Option, sym, refl, ap, ◌∙◌, subst, arith}
 use Rattle.std.proofs.lemmas.List.{append-nil, drop_all, length-map, length-replicate}
 use Rattle.base.specs.declared.refusal.Refusal.{Refusal}
 use Rattle.code.specs.Sending.{byte_of}

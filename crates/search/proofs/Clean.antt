@@ -4,7 +4,7 @@ use mathlib.Core.Bool.{beq, false≢true}
 use Rattle.std.proofs.lemmas.List.{append_assoc, append-nil}
 use Rattle.std.proofs.lemmas.Bool.{leb-true, lt-leb, le-leb, ne_eqb, eq-eqb, and_parts, or_from}
 use Rattle.search.specs.Lists.{count, Among}
-use Rattle.search.specs.Paths.{Block, BlockLaws, is_information, lawful, allowed, child, information_bits, parity_bit}
+use Rattle.search.specs.Paths.{BlockLaws, is_information, lawful, allowed, child, information_bits, parity_bit}
 use Rattle.search.specs.Stores.{Candidate, Store, StoreLaws, CapacityLaws, InOrder, behind_first}
 use Rattle.search.specs.Calls.{Request, Phase, Searching, Shown, Ended, Loaded, ShownWord, Paused}
 use Rattle.search.specs.Search.{is_left_out, load_refusal, root, loaded, in_phase, after_take, failed, judged, with_put, put_child, put_children, step_from, step, halt_at, halt, spent, unless_halted, unless_shown, advanced, between, within_limits, value_refusal}

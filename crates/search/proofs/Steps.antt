@@ -6,7 +6,7 @@ use Rattle.search.specs.Lists.{count, Among, Each}
 use Rattle.search.specs.Paths.{frozen, Block, BlockLaws, Admissible, is_information, lawful, allowed, child, information_bits, parity_bit, lawful_within}
 use Rattle.search.specs.Stores.{Candidate, Store, StoreLaws, Reaches, InOrder, Keeps, behind_first}
 use Rattle.search.specs.Calls.{Phase, Searching, Shown, Ended, Loaded, Figures, Met, ShownWord, NoneLeft, GivenUp, Paused}
-use Rattle.search.specs.Search.{report_of, is_left_out, in_phase, after_take, failed, judged, with_put, put_child, put_children, explored, step_from, step, halt_at, spent, unless_halted, unless_shown, advanced}
+use Rattle.search.specs.Search.{report_of, is_left_out, in_phase, after_take, failed, judged, with_put, put_child, put_children, step_from, step, halt_at, spent, unless_halted, unless_shown, advanced}
 use Rattle.search.specs.Records.{Showing, words_of}
 use Rattle.search.specs.Promise.{EachShown, NotBelow, Cheapest, Faithful, FewSteps}
 use Rattle.search.proofs.Lists.{count-among, each_from, each_map, none-among, among-count}

@@ -10,9 +10,8 @@ use Rattle.block.specs.declared.code.CheckCode.{CheckCode}
 use Rattle.block.specs.declared.code.CheckCode.TheVariants as check
 use Rattle.block.specs.declared.code.StoreCode.{StoreCode}
 use Rattle.block.specs.declared.code.StoreCode.TheVariants as store
-use Rattle.block.specs.declared.due.Due.TheVariants.{Plan, Search, Values}
+use Rattle.block.specs.declared.due.Due.TheVariants.{Values}
 use Rattle.block.specs.declared.numbers.PlanNumbers.{PlanNumbers}
-use Rattle.block.specs.declared.numbers.SearchNumbers.{SearchNumbers}
 use Rattle.sender.specs.Images.{check_code, store_code, plan_body, search_body, values_body, image_of}
 use Rattle.sender.proofs.Received.{value-bytes-length}
 use Rattle.sender.specs.declared.request.Request.{Request}

@@ -1,12 +1,12 @@
 -- What a receiver reads of the values that are written. Assumes nothing.
-use Rattle.std.proofs.Common.{◌≡◌, ℕ, zero, suc, ◌+◌, ◌-◌, ◌*◌, ◌/◌, ◌%◌, ◌<◌, ◌≤◌, Bool, true, false, cond, eqb, ltb, ◌⊎◌, List, [], ◌∷◌, ◌++◌, length, get_or, ℤ, pos, negsuc, sym, refl, ap, ◌∙◌, inl, inr, arith, length-append, w16, to_z}
+use Rattle.std.proofs.Common.{◌≡◌, ℕ, zero, suc, ◌+◌, ◌-◌, ◌*◌, ◌/◌, ◌%◌, ◌<◌, ◌≤◌, Bool, true, false, cond, eqb, ltb, ◌⊎◌, List, ◌++◌, length, get_or, pos, sym, refl, ap, ◌∙◌, inl, inr, arith, length-append, w16, to_z}
 use Rattle.std.proofs.lemmas.List.{get_or_append_left, get_or-append_right}
 use Rattle.std.proofs.lemmas.Bool.{lt-ltb}
 use Rattle.std.proofs.lemmas.Bool.Decides.{nat_tests}
 use Rattle.block.specs.Bytes.{wide}
 use Rattle.block.specs.Fields.{received_at}
 use Rattle.code.specs.Sending.{byte_of}
-use Rattle.sender.specs.Arrivals.{value_of, twos, two_bytes, value_bytes, turned}
+use Rattle.sender.specs.Arrivals.{value_of, twos, two_bytes, value_bytes}
 
 pub value-bytes-length : (magnitude : ℕ) (ones : ℕ → Bool) (n : ℕ) → length (value_bytes magnitude ones n) ≡ 2 * n
 unfolding value_bytes

@@ -1,5 +1,5 @@
 -- From a laid word to its code and its sent bits, and why each refusal is one of the request. Assumes nothing.
-use Rattle.std.proofs.Common.{◌≡◌, ℕ, zero, suc, ◌+◌, ◌-◌, ◌^◌, ◌<◌, ◌≤◌, Bool, true, cond, ◌&&◌, eqb, leb, List, map, length, take, drop, Some, None, Err, vec_items, sym, refl, ap, ◌∙◌, subst, inl, inr, arith, length-take}
+use Rattle.std.proofs.Common.{◌≡◌, ℕ, zero, suc, ◌+◌, ◌-◌, ◌^◌, ◌<◌, ◌≤◌, Bool, true, cond, eqb, List, map, length, take, drop, Some, None, Err, vec_items, sym, refl, ap, ◌∙◌, subst, inl, inr, arith, length-take}
 use lib.ListN.{length-map}
 use Rattle.std.proofs.lemmas.Bool.{lt-ltb}
 use Rattle.std.proofs.lemmas.Bool.Decides.{nat_tests}
@@ -16,10 +16,10 @@ use Rattle.code.specs.declared.laid.Laid.{Laid}
 use Rattle.crc.specs.Lengths.{fitting}
 use Rattle.plan.proofs.Sent.{plan-bounded, place_inside}
 use Rattle.plan.specs.Order.{sent_place}
-use Rattle.plan.specs.Plans.{kind_at, log_length, block_length, sent_bits, payload_bits, place_of}
+use Rattle.plan.specs.Plans.{log_length, block_length, sent_bits, place_of}
 use Rattle.plan.specs.declared.plan.Plan.{Plan}
 use Rattle.sender.specs.Checks.{finished_by}
-use Rattle.sender.specs.Sends.{word_of, laid_of, code_of, payload_verdict, PlanIs, LaidIs, CodeIs, Sent, SentFor, PayloadRefused, CodeRefused, RefusedWith, FailsWith}
+use Rattle.sender.specs.Sends.{laid_of, payload_verdict, PlanIs, LaidIs, CodeIs, Sent, SentFor, RefusedWith, FailsWith}
 use Rattle.sender.specs.declared.failure.Failure.{Failure}
 use Rattle.sender.specs.declared.failure.Failure.TheVariants.{Refused, Memory}
 use Rattle.sender.specs.declared.request.Request.{Request}

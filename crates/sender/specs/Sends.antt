@@ -1,5 +1,5 @@
 -- What is sent for a request: its plan, its finished word, laid bits, code bits and sent bits. Assumes nothing.
-use Rattle.std.specs.Prelude.{◌≡◌, ℕ, ◌<◌, Bool, false, ◌⊎◌, List, map, length, Some, None, Ok, Err, vec_items, Option, Result, slice_index}
+use Rattle.std.specs.Prelude.{◌≡◌, ℕ, ◌<◌, Bool, ◌⊎◌, List, map, length, Some, None, Ok, Err, vec_items, Option, Result, slice_index}
 use Rattle.std.specs.List.{range_with_len}
 use Rattle.std.specs.Global.{Vec}
 use Rattle.base.specs.Transform.{code_bit}

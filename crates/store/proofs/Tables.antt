@@ -2,7 +2,7 @@
 use Rattle.std.proofs.Common.{◌≡◌, ℕ, zero, suc, ◌+◌, ◌-◌, ◌<◌, ◌≤◌, Bool, true, false, cond, List, [], ◌∷◌, ◌++◌, length, get_or, take, drop, set, sym, refl, ap, ◌∙◌, arith}
 use borrow.Rule.Slice.PartMut.{mid_of, post_of}
 use lib.Seq.{paste}
-use Rattle.std.proofs.lemmas.List.{append_assoc, drop_all, drop_at, drop_more, drop-set-lt, length-append, length-drop, length_push, length-take-le, take_all, take_at, take_more_set}
+use Rattle.std.proofs.lemmas.List.{append_assoc, drop_more, drop-set-lt, length-append, length-drop, length_push, length-take-le, take_at, take_more_set}
 use Rattle.store.specs.Ordered.{inserted, in_order}
 use Rattle.store.proofs.Inserts.{insert-after, insert-here, insert-first, none-before-head, length_inserted}
 

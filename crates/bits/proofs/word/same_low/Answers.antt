@@ -1,4 +1,4 @@
-use Rattle.std.proofs.Common.{◌-◌, ◌^◌, eqb, ap, ◌∙◌, ap₂, arith, pow_pos}
+use Rattle.std.proofs.Common.{◌-◌, eqb, ap, ◌∙◌, ap₂}
 use lib.Bits.{bit_and, and_mask}
 use Rattle.bits.proofs.Agreement.{low-agree}
 use Rattle.bits.proofs.word.same_low.Goals as goal

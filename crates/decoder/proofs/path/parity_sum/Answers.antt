@@ -1,4 +1,4 @@
-use Rattle.std.proofs.Common.{◌≡◌, ℕ, ◌<◌, ◌≤◌, sym, refl, ap, ◌∙◌, arith, rules}
+use Rattle.std.proofs.Common.{◌≡◌, sym, refl, ap, ◌∙◌, arith}
 use mathlib.Core.Bool.{xor}
 use Rattle.base.specs.Counts.{xor_below}
 use Rattle.bits.specs.Row.{row_bit}

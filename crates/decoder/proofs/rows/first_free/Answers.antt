@@ -1,4 +1,4 @@
-use Rattle.std.proofs.Common.{◌≡◌, ℕ, ◌<◌, ◌≤◌, length, arith}
+use Rattle.std.proofs.Common.{◌<◌, length, arith}
 use Rattle.model.proofs.Rows.{not-all-held}
 use Rattle.decoder.proofs.rows.first_free.Goals as goal
 

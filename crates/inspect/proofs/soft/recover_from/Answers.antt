@@ -1,5 +1,5 @@
 -- The values are those of the body. Assumes nothing.
-use Rattle.std.proofs.Common.{◌≡◌, ℕ, ◌<◌, length, sym, ◌∙◌, arith, rules}
+use Rattle.std.proofs.Common.{◌≡◌, length, rules}
 use Rattle.plan.specs.Plans.{sent_bits}
 use Rattle.inspect.proofs.Places.{softens}
 use Rattle.inspect.proofs.soft.recover_from.Goals as goal

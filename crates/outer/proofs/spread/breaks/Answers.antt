@@ -1,5 +1,5 @@
-use Rattle.std.proofs.Common.{◌≡◌, ◌+◌, sym, ap, ◌∙◌, ap₂, arith}
-use Rattle.crc.proofs.Turns.{judged, left, judged-start, judged-next, judged-skip, judged-broken, judged-short, judged-whole}
+use Rattle.std.proofs.Common.{◌+◌, sym, ◌∙◌, ap₂, arith}
+use Rattle.crc.proofs.Turns.{judged, judged-start, judged-next, judged-skip, judged-broken, judged-short, judged-whole}
 use Rattle.outer.proofs.spread.breaks.Goals as goal
 use Rattle.outer.proofs.spread.breaks.Goals.{then-bit-struck+else-place-beginning+else-disagrees, else-bit-struck}
 

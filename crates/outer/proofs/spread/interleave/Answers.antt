@@ -1,4 +1,4 @@
-use Rattle.std.proofs.Common.{◌≡◌, ◌+◌, sym, ap, ◌∙◌, ap₂, arith}
+use Rattle.std.proofs.Common.{◌+◌, ap, ◌∙◌, ap₂, arith}
 use Rattle.crc.proofs.Turns.{finishing, finishing-start, finishing-next, finishing-skip, finishing-done}
 use Rattle.outer.proofs.spread.interleave.Goals as goal
 use Rattle.outer.proofs.spread.interleave.Goals.{then-bit-struck, else-bit-struck}

@@ -1,5 +1,4 @@
-use Rattle.std.proofs.Common.{◌≡◌, ◌+◌, ◌-◌, ◌<◌, length, arith}
-use Rattle.crc.specs.Spread.{longest}
+use Rattle.std.proofs.Common.{◌-◌, length, arith}
 use Rattle.crc.proofs.Turns.{sums_none, sums-more, sums-all}
 use Rattle.outer.proofs.sums.check_bits.Goals as goal
 

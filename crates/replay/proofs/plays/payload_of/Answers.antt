@@ -1,4 +1,4 @@
-use Rattle.std.proofs.Common.{◌≡◌, ℕ, min, List, length, ap₂}
+use Rattle.std.proofs.Common.{ℕ, min, List, length, ap₂}
 use Rattle.replay.specs.declared.call.Payload.{Payload}
 use Rattle.replay.proofs.Parts.{padded}
 use Rattle.replay.proofs.plays.payload_of.Goals as goal

@@ -1,4 +1,4 @@
-use Rattle.std.proofs.Common.{◌≡◌, length, refl}
+use Rattle.std.proofs.Common.{length, refl}
 use Rattle.plan.specs.Plans.{block_length}
 use Rattle.decoder.specs.Blocks.{plan_in}
 use Rattle.decoder.specs.States.{meanings, model_of, contents_of, loaded_of}

@@ -1,4 +1,3 @@
-use Rattle.std.proofs.Common.{◌≡◌}
 use Rattle.decoder.specs.Answers.{payload_in}
 use Rattle.decoder.specs.States.{meanings, model_of}
 use Rattle.replay.proofs.Played.{word-heard, word-written}

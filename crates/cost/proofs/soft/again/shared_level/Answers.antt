@@ -1,4 +1,4 @@
-use Rattle.std.proofs.Common.{◌≡◌, ◌*◌, ◌/◌, ◌^◌, ◌≤◌, min, sym, ap, ◌∙◌, ap₂, div-mul-le_self, arith}
+use Rattle.std.proofs.Common.{◌≡◌, ◌*◌, ◌/◌, ◌^◌, ◌≤◌, min, sym, ap, ◌∙◌, div-mul-le_self, arith}
 use Rattle.bits.specs.Row.{row_bit, same_bits}
 use Rattle.bits.proofs.Agreement.{bits_at}
 use Rattle.cost.specs.Levels.{start}

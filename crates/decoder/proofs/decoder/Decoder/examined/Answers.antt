@@ -1,4 +1,4 @@
-use Rattle.std.proofs.Common.{◌≡◌, Some, sym, ap, ◌∙◌}
+use Rattle.std.proofs.Common.{Some, sym, ap, ◌∙◌}
 use Rattle.base.specs.declared.refusal.Refusal.TheVariants as refusal
 use Rattle.model.specs.Blocks.{Meaning}
 use Rattle.decoder.proofs.Loads.{granted, refused-value, allowed_then, same_block}

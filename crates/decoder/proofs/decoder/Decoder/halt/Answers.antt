@@ -1,4 +1,4 @@
-use Rattle.std.proofs.Common.{◌≡◌, leb, sym, ◌∙◌}
+use Rattle.std.proofs.Common.{leb, sym, ◌∙◌}
 use Rattle.std.proofs.lemmas.Bool.{or_left, or_right, or_from, le-leb, lt-leb}
 use Rattle.cost.specs.Rows.{path_at}
 use Rattle.decoder.proofs.Advances.{none_left, given-up, goes_on}

@@ -1,10 +1,7 @@
-use Rattle.std.proofs.Common.{◌≡◌, suc, ◌+◌, ◌^◌, ◌<◌, ◌≤◌, sym, refl, ap, ◌∙◌, arith, pow_mono}
+use Rattle.std.proofs.Common.{◌≡◌, suc, ◌+◌, ◌^◌, ◌<◌, ◌≤◌, sym, refl, ◌∙◌, arith, pow_mono}
 use Rattle.cost.specs.Rows.{path_at}
-use Rattle.plan.specs.Plans.{log_length}
-use Rattle.search.specs.Paths.{child}
-use Rattle.model.specs.Blocks.{Meaning, path_cost}
+use Rattle.model.specs.Blocks.{Meaning}
 use Rattle.decoder.specs.Blocks.{plan_in, llr_in}
-use Rattle.decoder.specs.Steps.{path_of}
 use Rattle.decoder.proofs.Apart.{apart-put}
 use Rattle.decoder.proofs.Steps.{skips, puts-child, put-later, parent-path}
 use Rattle.decoder.proofs.decoder.Decoder.put_child.Goals as goal

@@ -1,10 +1,10 @@
-use Rattle.std.proofs.Common.{◌≡◌, ◌+◌, ◌<◌, ◌≤◌, Bool, true, false, [], ◌∷◌, sym, refl, ap, ◌∙◌, ap₂, arith, w32, SFits, to_z, of_z, rules}
+use Rattle.std.proofs.Common.{◌≡◌, true, false, [], ◌∷◌, sym, ap, ◌∙◌, ap₂, arith, w32, SFits, to_z, of_z, rules}
 use Rattle.std.proofs.lemmas.Int.{to_z-of_z}
 use Rattle.cost.specs.Values.{contradicts}
 use Rattle.cost.specs.Path.{decision}
 use Rattle.cost.specs.Rows.{path_at}
 use Rattle.plan.specs.Plans.{log_length, kind_at}
-use Rattle.search.specs.Paths.{Kind, frozen, information, parity, parity_bit}
+use Rattle.search.specs.Paths.{frozen, information, parity, parity_bit}
 use Rattle.search.specs.Search.{put_child, put_children}
 use Rattle.search.specs.Stores.{ruled}
 use Rattle.model.specs.Blocks.{kind_of, kinds_of}

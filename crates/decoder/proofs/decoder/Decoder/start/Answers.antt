@@ -1,8 +1,7 @@
-use Rattle.std.proofs.Common.{◌≡◌, ◌≤◌, [], length, sym, refl, ap, ◌∙◌, arith}
+use Rattle.std.proofs.Common.{◌≡◌, refl, ap, arith}
 use Rattle.cost.specs.Rows.{path_at}
-use Rattle.store.specs.Meaning as store
 use Rattle.search.specs.Calls as search
-use Rattle.search.specs.Stores.{Contents, put_into, emptied_to}
+use Rattle.search.specs.Stores.{put_into, emptied_to}
 use Rattle.search.specs.Search.{root}
 use Rattle.model.specs.Blocks.{block_of}
 use Rattle.model.specs.Reading.{contents_in}

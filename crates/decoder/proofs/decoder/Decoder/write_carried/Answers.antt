@@ -1,4 +1,4 @@
-use Rattle.std.proofs.Common.{◌≡◌, map, length, ap, ◌∙◌}
+use Rattle.std.proofs.Common.{map, length, ap, ◌∙◌}
 use Rattle.code.specs.Sending.{byte_of}
 use Rattle.decoder.proofs.Shows.{read-accepted}
 use Rattle.decoder.proofs.decoder.Decoder.write_carried.Goals as goal

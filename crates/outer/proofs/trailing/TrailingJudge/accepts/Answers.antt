@@ -1,4 +1,4 @@
-use Rattle.std.proofs.Common.{◌≡◌, length, sym, ap, ◌∙◌}
+use Rattle.std.proofs.Common.{length, sym, ap, ◌∙◌}
 use Rattle.crc.specs.Lengths.{fitting}
 use Rattle.outer.specs.Followed.{unfit-unsound, sound-repeats}
 use Rattle.outer.proofs.trailing.TrailingJudge.accepts.Goals as goal
