@@ -2,7 +2,7 @@
 use Rattle.std.specs.Prelude.{◌≡◌, ℕ, zero, suc, ◌+◌, ◌-◌, ◌<◌, ◌≤◌, Bool, true, false, ◌||◌, List, [], ◌∷◌, ◌++◌, length, take, ◌==◌, ◌≢◌, slice_set, refl}
 use Rattle.std.proofs.Common.{arith, sym, ap, subst, ◌∙◌}
 use Rattle.std.proofs.Math.Seq.{take-set-lt}
-use Rattle.std.specs.List.{AllByRecursion as All}
+use Rattle.std.specs.List.{AllByRecursion}
 use Rattle.std.proofs.ByRecursion.{All-from_get_or, All-set}
 use Rattle.std.proofs.lemmas.List.{get_or-take, length-take-le, take_more, take_more_set}
 use Rattle.store.specs.declared.candidate.Candidate.{Candidate}
@@ -17,7 +17,7 @@ use Rattle.heap.specs.Fronts.{front-first}
 use Rattle.heap.specs.Sorts.{all-sorted, length-sorted, sorted-first, in-order-sorted, sorted-push, sorted-set, insert-last}
 
 -- what holds of each place of the front holds of each of its elements
-all-front : (P : Candidate → Type 0) (xs : List Candidate) (n : ℕ) → n ≤ length xs → ((k : ℕ) → k < n → P (at xs k)) → All P (take n xs)
+all-front : (P : Candidate → Type 0) (xs : List Candidate) (n : ℕ) → n ≤ length xs → ((k : ℕ) → k < n → P (at xs k)) → AllByRecursion P (take n xs)
 all-front P xs n h each =
     All-from_get_or P (take n xs) _ (λ k l.
     let lt : k < n = omega (arith, length-take-le n xs h, l) in
@@ -48,7 +48,7 @@ module _ (xs : List Candidate) (n : ℕ) (fits : n ≤ length xs) where
         let front : List Candidate = take n xs in
         let w : Candidate = at xs p in
         let long : p < length front = omega (arith, length-take-le n xs fits) in
-        let others : All (λ x. before w x ≡ false) (slice_set front p c) =
+        let others : AllByRecursion (λ x. before w x ≡ false) (slice_set front p c) =
         All-set (λ x. before w x ≡ false) front p c (not-before-back before strict c w h) (all-front (λ x. before w x ≡ false) xs n fits last) in
         sym (sorted-set before strict front p c _ long)
         ∙ ap (inserted before (sorted before (slice_set front p c))) (get_or-take n xs p _ within)

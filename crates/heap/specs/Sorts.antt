@@ -3,7 +3,7 @@ use Rattle.std.specs.Prelude.{◌≡◌, ℕ, zero, suc, ◌<◌, Bool, true, fa
 use native.Mathlib.Omega.{arith}
 use Rattle.std.proofs.Math.Path.{refl, sym, ap}
 use Rattle.std.proofs.Common.{◌∙◌, inl, inr}
-use Rattle.std.specs.List.{AllByRecursion as All}
+use Rattle.std.specs.List.{AllByRecursion}
 use Rattle.std.proofs.lemmas.List.{get_or-set_same, get_or-set_other, length-set}
 use Rattle.std.proofs.lemmas.Bool.{and_from, both_ways, cases_eq, not_from_false}
 use Rattle.store.specs.Ordered.{inserted, none_before, in_order}
@@ -11,7 +11,7 @@ use Rattle.store.proofs.Inserts.{Strict, all_inserted, by-test, insert-after, in
 use Rattle.heap.specs.Sorting.{sorted}
 
 module _ {X : Type 0} (before : X → X → Bool) where
-  pub all-sorted : (P : X → Type 0) (xs : List X) → All P xs → All P (sorted before xs)
+  pub all-sorted : (P : X → Type 0) (xs : List X) → AllByRecursion P xs → AllByRecursion P (sorted before xs)
   unfolding sorted
   all-sorted P [] h = tt
   all-sorted P (x ∷ xs) h = all_inserted before P (sorted before xs) x (all-sorted P xs h.1) h.0
@@ -21,13 +21,13 @@ module _ {X : Type 0} (before : X → X → Bool) where
   length-sorted [] = refl
   length-sorted (x ∷ xs) = length_inserted before (sorted before xs) x ∙ ap suc (length-sorted xs)
 
-  none-before-from-all : (c : X) (xs : List X) → All (λ x. before x c ≡ false) xs → none_before before c xs ≡ true
+  none-before-from-all : (c : X) (xs : List X) → AllByRecursion (λ x. before x c ≡ false) xs → none_before before c xs ≡ true
   unfolding none_before
   none-before-from-all c [] h = refl
   none-before-from-all c (x ∷ xs) h = and_from _ _ (not_from_false _ h.0) (none-before-from-all c xs h.1)
 
   -- what none comes before stands in front
-  pub sorted-first : (c : X) (xs : List X) → All (λ x. before x c ≡ false) xs → sorted before (c ∷ xs) ≡ c ∷ sorted before xs
+  pub sorted-first : (c : X) (xs : List X) → AllByRecursion (λ x. before x c ≡ false) xs → sorted before (c ∷ xs) ≡ c ∷ sorted before xs
   unfolding sorted
   sorted-first c xs h =
       insert-first before (sorted before xs) c (none-before-from-all c (sorted before xs) (all-sorted (λ x. before x c ≡ false) xs h))
@@ -111,7 +111,7 @@ module _ {X : Type 0} (before : X → X → Bool) (strict : Strict before) where
       (λ q. let f : c ∷ x ∷ xs ≡ c ∷ y ∷ ys = sym (insert-here before x xs c p) ∙ e ∙ insert-here before y ys c q in cc))
 
   -- what comes before none stands last
-  pub insert-last : (xs : List X) (c : X) → in_order before xs ≡ true → All (λ x. before c x ≡ false) xs → inserted before xs c ≡ xs ++ c ∷ []
+  pub insert-last : (xs : List X) (c : X) → in_order before xs ≡ true → AllByRecursion (λ x. before c x ≡ false) xs → inserted before xs c ≡ xs ++ c ∷ []
   unfolding inserted
   insert-last [] c h k = refl
   insert-last (x ∷ xs) c h k =

@@ -3,7 +3,7 @@ use Rattle.std.proofs.Common.{◌≡◌, ℕ, zero, suc, ◌<◌, ◌≤◌, Boo
 use Rattle.std.proofs.lemmas.List.{length-map, length-drop, take-map, drop-map, take_all, drop_all}
 use Rattle.std.proofs.lemmas.Bool.{cond_both, ltb-true, ltb-false, or_parts}
 use Rattle.std.proofs.lemmas.Bool.Decides.{nat_tests}
-use Rattle.std.specs.List.{AllByRecursion as All}
+use Rattle.std.specs.List.{AllByRecursion}
 use Rattle.cost.specs.Rows.{with_path}
 use Rattle.search.specs.Lists.{Each}
 use Rattle.search.specs.Stores as search
@@ -27,7 +27,7 @@ unfolding inserted
 inserted-alike [] c = refl
 inserted-alike (x ∷ xs) c = ap (λ ys. cond (search.before x c) (x ∷ ys) (c ∷ x ∷ xs)) (inserted-alike xs c)
 
-each-aside : (paths : ℕ → ℕ → Bool) (xs : List Candidate) (c : Candidate) → Each (λ k. k.serial < c.serial) xs → All (λ k. before k c ≡ search.before (candidate_in paths k) (candidate_in paths c)) xs
+each-aside : (paths : ℕ → ℕ → Bool) (xs : List Candidate) (c : Candidate) → Each (λ k. k.serial < c.serial) xs → AllByRecursion (λ k. before k c ≡ search.before (candidate_in paths k) (candidate_in paths c)) xs
 each-aside paths [] c h = tt
 each-aside paths (x ∷ xs) c h = (rows_aside x c h.0 paths, each-aside paths xs c h.1)
 

@@ -1,3 +1,4 @@
 pub mod Parts
 pub mod Played
 pub mod Replayed
+pub mod Exactness

@@ -1,7 +1,7 @@
 -- That putting and taking account for every candidate. Assumes nothing.
 use Rattle.std.proofs.Common.{◌≡◌, ℕ, ◌≤◌, Bool, true, false, cond, not, List, [], ◌∷◌, map, drop, Some, None, Option, refl, ap, ◌∙◌, subst, arith, take-append-drop}
 use Rattle.std.specs.List.Sorted.{IsPermutation}
-use Rattle.std.specs.List.{AllByRecursion as All}
+use Rattle.std.specs.List.{AllByRecursion}
 use Rattle.std.proofs.ByRecursion.{All-weaker}
 use Rattle.std.proofs.lemmas.List.{append-nil}
 use Rattle.std.proofs.lemmas.List.Sorted.{IsPermutation-refl, IsPermutation-cons, IsPermutation-swap, IsPermutation-trans}
@@ -31,7 +31,7 @@ module _ {X : Type 0} (metric : X → ℕ) (floor : Option ℕ) where
   lowered-falls [] m h = h
   lowered-falls (x ∷ xs) m h = lesser-bars-left (lowered metric floor xs) (Some (metric x)) m (lowered-falls xs m h)
 
-  pub lowered-bars : (xs : List X) → All (λ x. Bars (lowered metric floor xs) (metric x)) xs
+  pub lowered-bars : (xs : List X) → AllByRecursion (λ x. Bars (lowered metric floor xs) (metric x)) xs
   unfolding lowered
   lowered-bars [] = tt
   lowered-bars (x ∷ xs) = (
@@ -69,7 +69,7 @@ put-is-accounted = put-accounted before metric_of
 
 -- whatever the test, if what it does not put first costs no less
 module _ {X : Type 0} (before : X → X → Bool) (metric : X → ℕ) (by-metric : (a b : X) → before b a ≡ false → metric a ≤ metric b) where
-  least_first : (c : X) (xs : List X) → none_before before c xs ≡ true → All (λ x. metric c ≤ metric x) xs
+  least_first : (c : X) (xs : List X) → none_before before c xs ≡ true → AllByRecursion (λ x. metric c ≤ metric x) xs
   unfolding none_before
   least_first c [] h = tt
   least_first c (x ∷ xs) h =

@@ -1,6 +1,6 @@
 -- Insertion by a test, and what it keeps. Assumes of the test what each section names.
 use Rattle.std.proofs.Common.{◌≡◌, ℕ, zero, suc, ◌<◌, Bool, true, false, cond, not, List, [], ◌∷◌, ◌++◌, map, length, take, drop, refl, ap, ◌∙◌, arith}
-use Rattle.std.specs.List.{AllByRecursion as All}
+use Rattle.std.specs.List.{AllByRecursion}
 use Rattle.std.proofs.lemmas.List.{drop_all, drop_at, take_all, take_at}
 use Rattle.std.proofs.lemmas.Bool.{and_parts, and_from, both_ways, not-true, not_from_false}
 use Rattle.store.specs.Ordered.{inserted, none_before, in_order}
@@ -57,16 +57,16 @@ module _ {X : Type 0} (before : X → X → Bool) where
       let p = and_parts (none_before before x xs) (in_order before xs) h in
       and_from _ _ (none-before-take n x xs p.0) (in-order-take n xs p.1)
 
-  pub all_inserted : (P : X → Type 0) (xs : List X) (c : X) → All P xs → P c → All P (inserted before xs c)
+  pub all_inserted : (P : X → Type 0) (xs : List X) (c : X) → AllByRecursion P xs → P c → AllByRecursion P (inserted before xs c)
   unfolding inserted
   all_inserted P [] c h k = (k, tt)
   all_inserted P (x ∷ xs) c h k =
-      elim (before x c) as (λ b. All P (cond b (x ∷ inserted before xs c) (c ∷ x ∷ xs)))
+      elim (before x c) as (λ b. AllByRecursion P (cond b (x ∷ inserted before xs c) (c ∷ x ∷ xs)))
       [ true ↦ (h.0, all_inserted P xs c h.1 k) | false ↦ (k, h) ]
 
   -- elements may be read as others that the test there takes alike
   pub inserted-map :
-      {Y : Type 0} (before' : Y → Y → Bool) (f : X → Y) (xs : List X) (c : X) → All (λ x. before x c ≡ before' (f x) (f c)) xs
+      {Y : Type 0} (before' : Y → Y → Bool) (f : X → Y) (xs : List X) (c : X) → AllByRecursion (λ x. before x c ≡ before' (f x) (f c)) xs
       → map f (inserted before xs c) ≡ inserted before' (map f xs) (f c)
   unfolding inserted
   inserted-map before' f [] c h = refl

@@ -1,7 +1,7 @@
 -- What a search needs of a store, as relations, and that every store's meaning meets them. Assumes nothing.
 use Rattle.std.specs.Prelude.{◌≡◌, ℕ, ◌≤◌, true, List, [], ◌∷◌, ◌++◌, Some, None, Option}
 use Rattle.std.specs.List.Sorted.{IsPermutation}
-use Rattle.std.specs.List.{AllByRecursion as All}
+use Rattle.std.specs.List.{AllByRecursion}
 use Rattle.store.specs.declared.candidate.Candidate.{Candidate}
 use Rattle.store.specs.Lesser.{Bars}
 use Rattle.store.specs.Meaning.{Left, Taken, puts, takes, lowered, metric_of}
@@ -13,7 +13,7 @@ use Rattle.store.specs.Ordered.{in_order}
 pub record Accounted {X : Type 0} (metric : X → ℕ) (were : List X) (floor : Option ℕ) (stay : List X) (floor' : Option ℕ) : Type 0 where
   pub lost : List X
   pub parts : IsPermutation were (stay ++ lost)
-  pub barred : All (λ x. Bars floor' (metric x)) lost
+  pub barred : AllByRecursion (λ x. Bars floor' (metric x)) lost
   pub falls : (m : ℕ) → Bars floor m → Bars floor' m
 
 -- a put accounts for what was kept and the newcomer
@@ -23,7 +23,7 @@ Puts metric kept floor c kept' floor' = Accounted metric (c ∷ kept) floor kept
 -- a take accounts for what was kept, with what is taken among those that stay, and nothing kept costs less
 pub record Takes {X : Type 0} (metric : X → ℕ) (kept : List X) (floor : Option ℕ) (c : X) (kept' : List X) (floor' : Option ℕ) : Type 0 where
   pub account : Accounted metric kept floor (c ∷ kept') floor'
-  pub least : All (λ x. metric c ≤ metric x) kept
+  pub least : AllByRecursion (λ x. metric c ≤ metric x) kept
 
 abbrev pub PutIsAccounted : Type 0
 PutIsAccounted =
