@@ -1,7 +1,6 @@
 // Plays calls one after the other, from a new decoder on. Assumes nothing.
 ghost use Rattle.std.specs.Prelude.{◌≡◌, length, IfOk};
-ghost use Rattle.search.specs.Lists.{Each};
-ghost use Rattle.replay.specs.Exact.{LoadsExact};
+ghost use Rattle.replay.specs.Exact.{MetricsExact};
 ghost use Rattle.replay.specs.Plays.{output_left, scratch_left};
 ghost use Rattle.replay.specs.Replays.{KeepsPromise, answers_of, end_of, if_played, left_by, run_of};
 ghost use Rattle.decoder.specs.States.{meanings, model_of, unloaded, Coherent};
@@ -26,7 +25,7 @@ pub fn replay<S: Store, C: Judge>(
 ) -> (Decoder<S, C>, Result<Vec<Answer>, AllocError>)
     ensures answers { IfOk result.1 (λ answers. answers.items ≡ answers_of (run_of (meanings S.kept S.capacity S.floor C.accepted C.hopeless C.carried) C.bits C.longest store check values.now (length scratch.old) (length output.old) calls.now)) }
     ensures promise { KeepsPromise (run_of (meanings S.kept S.capacity S.floor C.accepted C.hopeless C.carried) C.bits C.longest store check values.now (length scratch.old) (length output.old) calls.now) }
-    ensures exact { Each (LoadsExact (meanings S.kept S.capacity S.floor C.accepted C.hopeless C.carried) C.bits C.longest check values.now) calls.now }
+    ensures exact { MetricsExact values.now calls.now (run_of (meanings S.kept S.capacity S.floor C.accepted C.hopeless C.carried) C.bits C.longest store check values.now (length scratch.old) (length output.old) calls.now) }
     ensures decoder { (model_of (meanings S.kept S.capacity S.floor C.accepted C.hopeless C.carried) result.0 ≡ if_played result.1 (end_of (run_of (meanings S.kept S.capacity S.floor C.accepted C.hopeless C.carried) C.bits C.longest store check values.now (length scratch.old) (length output.old) calls.now)) (unloaded (meanings S.kept S.capacity S.floor C.accepted C.hopeless C.carried) store)) × ((Coherent (meanings S.kept S.capacity S.floor C.accepted C.hopeless C.carried) result.0) × (result.0.check ≡ check)) }
     ensures scratch { scratch.new ≡ if_played result.1 (left_by scratch_left (run_of (meanings S.kept S.capacity S.floor C.accepted C.hopeless C.carried) C.bits C.longest store check values.now (length scratch.old) (length output.old) calls.now) scratch.old) scratch.old }
     ensures output { output.new ≡ if_played result.1 (left_by output_left (run_of (meanings S.kept S.capacity S.floor C.accepted C.hopeless C.carried) C.bits C.longest store check values.now (length scratch.old) (length output.old) calls.now) output.old) output.old }

@@ -4,7 +4,7 @@ use Rattle.search.specs.Stores.{ruled}
 use Rattle.decoder.specs.States.{meanings, model_of, unloaded}
 use Rattle.replay.specs.Plays.{call_of, heard, output_left, scratch_left}
 use Rattle.replay.specs.Replays.{calls_of}
-use Rattle.replay.proofs.Exactness.{loads-exact}
+use Rattle.replay.proofs.Exactness.{metrics-exact}
 use Rattle.replay.proofs.Replayed.{Ends, remains-all, remains-less, remains-none, next-call, no_call, same-call, keeps-promise}
 use Rattle.replay.proofs.replays.replay.Goals as goal
 
@@ -15,7 +15,7 @@ returns-in-Err g c =
     record {
       answers = tt;
       promise = keeps-promise m g.C.Judge.bits g.C.Judge.longest c.args.check c.args.values.now (length c.args.scratch.now) (length c.args.output.now) (g.met.C.Judge.accepted_hopeful c.args.check) _ c.args.calls.now;
-      exact = loads-exact m g.C.Judge.bits g.C.Judge.longest c.args.check c.args.values.now c.args.calls.now;
+      exact = metrics-exact m g.C.Judge.bits g.C.Judge.longest c.args.check c.args.values.now (length c.args.scratch.now) (length c.args.output.now) (g.met.C.Judge.accepted_hopeful c.args.check) _ c.args.calls.now;
       decoder = (e.model, (e.coherent, e.check));
       scratch = refl;
       output = refl;
@@ -80,7 +80,7 @@ returns g c =
     record {
       answers = ends.answers_of;
       promise = keeps-promise m g.C.Judge.bits g.C.Judge.longest c.args.check c.args.values.now (length scratch) (length output) (g.met.C.Judge.accepted_hopeful c.args.check) _ calls;
-      exact = loads-exact m g.C.Judge.bits g.C.Judge.longest c.args.check c.args.values.now calls;
+      exact = metrics-exact m g.C.Judge.bits g.C.Judge.longest c.args.check c.args.values.now (length scratch) (length output) (g.met.C.Judge.accepted_hopeful c.args.check) _ calls;
       decoder = (ends.decoder, (coherent, check ∙ new.check));
       scratch = ends.scratch-of;
       output = ends.output-of;
