@@ -5,7 +5,7 @@ statements and other types in upper camel case.
 usage: python3 tools/respell.py [ROOT]    once, right after /opt/rattle/port/port.py; ROOT is this repository by default
 
 It goes by whole names, through specs/, proofs/, clauses, must-fail edits, and names in backquotes of docs/.
-Names of code, strings, inputs and outputs are not in the table. It stops, with nothing written, where two names would fall together.
+Names of code, strings, inputs and outputs are not in the table. It stops, with nothing written, where two of the new names in its table are the same.
 """
 import glob
 import os
