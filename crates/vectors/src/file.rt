@@ -4,7 +4,7 @@ use block::{CheckCode, PlanNumbers, SearchNumbers, StoreCode, examine};
 use std::test::Fail;
 
 // n 5, A 4, E 32, t 0, p 0, no check; S 8, table, C 1, T 4,096, two words; 32 values of 10.
-const WORKED: [u8; 91] = [
+pub const WORKED: [u8; 91] = [
     1, 0, 9, 5, 0, 4, 0, 32, 0, 0, 0, 0, 2, 0, 9, 8, 0, 0, 1, 0, 0, 16, 0, 2, 3, 0, 64, 0, 10, 0,
     10, 0, 10, 0, 10, 0, 10, 0, 10, 0, 10, 0, 10, 0, 10, 0, 10, 0, 10, 0, 10, 0, 10, 0, 10, 0, 10,
     0, 10, 0, 10, 0, 10, 0, 10, 0, 10, 0, 10, 0, 10, 0, 10, 0, 10, 0, 10, 0, 10, 0, 10, 0, 10, 0,

@@ -3,3 +3,5 @@
 
 #[cfg(test)]
 mod file;
+#[cfg(test)]
+mod sent;
