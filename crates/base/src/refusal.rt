@@ -19,11 +19,11 @@ pub enum Layer {
     Report,
 }
 
-impl Layer {
-    pub fn name(self) -> &'static str
-        ensures { result.now ≡ layer_name self }
-    {
-        match self {
+impl fmt::Display for Layer {
+    ghost output = { λ l. Some (layer_name l) };
+
+    fn fmt<W: fmt::Write>(&self, f: &mut fmt::Formatter<W>) -> fmt::Result {
+        f.write_str(match self {
             Layer::File => "file",
             Layer::Plan => "plan",
             Layer::Laying => "laying",
@@ -34,7 +34,7 @@ impl Layer {
             Layer::Strike => "strike",
             Layer::Word => "word",
             Layer::Report => "report",
-        }
+        })
     }
 }
 
@@ -47,11 +47,11 @@ pub enum Phased {
     Report,
 }
 
-impl Phased {
-    pub fn layer(self) -> Layer
-        ensures { result ≡ layer_of_call self }
-    {
-        match self {
+impl From<Phased> for Layer {
+    ghost from_gives = { λ call layer. layer ≡ layer_of_call call };
+
+    fn from(call: Phased) -> Layer {
+        match call {
             Phased::Advance => Layer::Advance,
             Phased::Strike => Layer::Strike,
             Phased::Word => Layer::Word,
@@ -108,7 +108,7 @@ impl Refusal {
             Refusal::Block { .. } => Layer::Load,
             Refusal::Budget => Layer::Advance,
             Refusal::OutputLength => Layer::Word,
-            Refusal::WrongPhase(call) => call.layer(),
+            Refusal::WrongPhase(call) => Layer::from(call),
         }
     }
 
@@ -136,13 +136,13 @@ impl Refusal {
         ensures { result ≡ position_of self.now }
     {
         match *self {
-            Refusal::Cut { at } => at,
-            Refusal::Tag { at } => at,
-            Refusal::Form { at } => at,
-            Refusal::Payload { at } => at,
-            Refusal::ShortenedOne { at } => at,
-            Refusal::Value { at } => at,
-            Refusal::Block { at } => at,
+            Refusal::Cut { at }
+            | Refusal::Tag { at }
+            | Refusal::Form { at }
+            | Refusal::Payload { at }
+            | Refusal::ShortenedOne { at }
+            | Refusal::Value { at }
+            | Refusal::Block { at } => at,
             _ => 0,
         }
     }
@@ -153,7 +153,7 @@ impl fmt::Display for Refusal {
     ghost output = { λ e. Some (fault_text e) };
 
     fn fmt<W: fmt::Write>(&self, f: &mut fmt::Formatter<W>) -> fmt::Result {
-        let layer = self.layer().name();
+        let layer = self.layer();
         let number = self.number();
         let position = self.position();
         write!(f, "{layer} {number} {position}")
