@@ -1,9 +1,14 @@
 -- The kind of a position by its rank, for any order of reliability and any set of barred positions.
 -- Assumes nothing: that the order is strict and total is a law of its own.
-use Rattle.std.specs.Prelude.{ℕ, ◌+◌, Bool, true, false, cond, not, ◌&&◌, nat_lt}
+use Rattle.std.specs.Prelude.{ℕ, ◌+◌, Bool, true, false, cond, not, ◌&&◌, List, nat_lt, codes}
 use Rattle.base.specs.Counts.{count_below}
 use Rattle.plan.specs.declared.kind.Kind.{Kind}
 use Rattle.plan.specs.declared.kind.Kind.TheVariants.{Frozen, Information, Parity}
+
+abbrev pub kind_name : Kind → List ℕ
+kind_name Frozen = codes "frozen"
+kind_name Information = codes "information"
+kind_name Parity = codes "parity"
 
 abbrev pub is_information : Kind → Bool
 is_information Frozen = false

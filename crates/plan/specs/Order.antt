@@ -1,9 +1,14 @@
 -- The mode of rate matching, the order of code places, the place of each sent bit, and which positions are barred.
 -- n stands for the block length N = 2 ^ n. Assumes nothing.
-use Rattle.std.specs.Prelude.{ℕ, ◌+◌, ◌-◌, ◌*◌, ◌/◌, ◌%◌, ◌^◌, Bool, false, cond, not, ◌||◌, List, [], ◌∷◌, nat_eq, nat_le, nat_lt, slice_index, slice_index_or}
+use Rattle.std.specs.Prelude.{ℕ, ◌+◌, ◌-◌, ◌*◌, ◌/◌, ◌%◌, ◌^◌, Bool, false, cond, not, ◌||◌, List, [], ◌∷◌, nat_eq, nat_le, nat_lt, slice_index, slice_index_or, codes}
 use Rattle.base.specs.Counts.{any_below}
 use Rattle.plan.specs.declared.mode.Mode.{Mode}
 use Rattle.plan.specs.declared.mode.Mode.TheVariants.{Repeat, Puncture, Shorten}
+
+abbrev pub mode_name : Mode → List ℕ
+mode_name Repeat = codes "repeat"
+mode_name Puncture = codes "puncture"
+mode_name Shorten = codes "shorten"
 
 -- the order of the 32 equal parts of a block
 unfoldable pub pattern : List ℕ

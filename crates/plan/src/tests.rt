@@ -1,6 +1,7 @@
 // Requests at their edges, with answers worked out from the rules by hand. Assumes nothing.
 use crate::plan::Plan;
 use crate::request::Request;
+use base::Refusal;
 
 // n 5, A 1, E 32, t 0, p 0, no check.
 const ONE: Request = Request {
@@ -92,28 +93,19 @@ const CROWDED: [Request; 5] = [
     },
 ];
 
-// The number of the refusal; 0 if the request is granted.
-fn refusal(request: &Request) -> u8 {
-    let mut plan = Plan::builtin();
-    match plan.make(request) {
-        Ok(()) => 0,
-        Err(refusal) => refusal.number(),
-    }
+// Why the request is refused, if it is.
+fn refusal(request: &Request) -> Option<Refusal> {
+    Plan::builtin().make(request).err()
 }
 
 // Whether all requests get the same answer.
-fn all_get(requests: &[Request], number: u8) -> bool {
-    for request in requests {
-        if refusal(request) != number {
-            return false;
-        }
-    }
-    true
+fn all_get(requests: &[Request], answer: Option<Refusal>) -> bool {
+    requests.iter().all(|request| refusal(request) == answer)
 }
 
 #[test]
 fn edges(rt: HostRuntime) {
-    assert!(rt; all_get(&BEYOND, 4));
-    assert!(rt; all_get(&GRANTED, 0));
-    assert!(rt; all_get(&CROWDED, 5));
+    assert!(rt; all_get(&BEYOND, Some(Refusal::Limits)));
+    assert!(rt; all_get(&GRANTED, None));
+    assert!(rt; all_get(&CROWDED, Some(Refusal::Crowded)));
 }
