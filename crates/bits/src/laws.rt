@@ -5,11 +5,9 @@ ghost use Rattle.bits.specs.Row.{row_bit};
 
 use crate::row::Row;
 
-pub fn transform_by_halves() -> u8
+pub fn transform_by_halves()
     ensures { (n : ℕ) (u : ℕ → Bool) (i : ℕ) → i < 2 ^ n → Halves n u i }
-{
-    0
-}
+{}
 
 // At 32 bits u5 alone makes code bits 0, 1, 4 and 5: by the rule, and in a row.
 pub fn one_of_32() -> Row

@@ -15,20 +15,6 @@ const STAGE_MASKS: [u64; 6] = [
     0x0000_0000_ffff_ffff,
 ];
 
-pub fn power(n: usize) -> usize
-    requires width { n < 64 }
-    ensures { result ≡ 2 ^ n }
-{
-    1 << n
-}
-
-fn single(k: usize) -> u64
-    requires width { k < 64 }
-    ensures { result ≡ 2 ^ k }
-{
-    1 << k
-}
-
 pub fn bit(x: u64, k: usize) -> bool
     requires width { k < 64 }
     ensures { result ≡ bit_of x k }
@@ -40,7 +26,7 @@ pub fn with_bit(x: u64, k: usize, value: bool) -> u64
     requires width { k < 64 }
     ensures { (j : ℕ) → j < 64 → bit_of result j ≡ (if nat_eq j k then value else bit_of x j) }
 {
-    if value { x | single(k) } else { x & !single(k) }
+    if value { x | (1 << k) } else { x & !(1 << k) }
 }
 
 // Whether the lowest n bits of both are the same.
@@ -48,7 +34,7 @@ pub fn same_low(x: u64, y: u64, n: usize) -> bool
     requires width { n < 64 }
     ensures { result ≡ same_bits (bit_of x) (bit_of y) n }
 {
-    let mask = single(n) - 1;
+    let mask = (1 << n) - 1;
     x & mask == y & mask
 }
 
@@ -63,7 +49,7 @@ fn stage(x: u64, s: usize) -> u64
     requires width { s < 6 }
     ensures { (k : ℕ) → k < 64 → bit_of result k ≡ stage_bit s (bit_of x) k }
 {
-    x ^ ((x >> power(s)) & stage_mask(s))
+    x ^ ((x >> (1usize << s)) & stage_mask(s))
 }
 
 // Transforms every aligned block of 2^n bits.
@@ -83,7 +69,7 @@ fn span(offset: usize, n: usize) -> u64
     requires width { (n < 6) × (offset < 64) }
     ensures { (k : ℕ) → k < 64 → bit_of result k ≡ (nat_le offset k && nat_lt k (offset + 2 ^ n)) }
 {
-    (single(power(n)) - 1) << offset
+    ((1 << (1usize << n)) - 1) << offset
 }
 
 // Transforms the 2^n bits from offset on, and no others.

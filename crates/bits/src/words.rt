@@ -23,7 +23,7 @@ fn added(words: &[u64], i: usize, s: usize) -> u64
     ensures { result ≡ added_word s words.now i }
 {
     if (i >> s) % 2 == 0 {
-        words[i] ^ words[i + word::power(s)]
+        words[i] ^ words[i + (1 << s)]
     } else {
         words[i]
     }

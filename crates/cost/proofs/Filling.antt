@@ -1,7 +1,7 @@
 -- A loop that writes a block into a list, one value a turn. Assumes nothing.
-use Rattle.std.proofs.Common.{◌≡◌, ℕ, suc, ◌+◌, ◌^◌, ◌<◌, ◌≤◌, ◌≢◌, List, length, get_or, set, replicate, ℤ, pos, nat_abs, sym, refl, ap, ◌∙◌, subst, ap₂, ⊎_elim, zero-add, arith, get_or-set_other, get_or-set_same}
+use Rattle.std.proofs.Common.{◌≡◌, ℕ, suc, ◌+◌, ◌^◌, ◌<◌, ◌≤◌, ◌≢◌, ◌-◌, List, ◌++◌, length, get_or, drop, set, replicate, ℤ, pos, nat_abs, sym, refl, ap, ◌∙◌, subst, ap₂, ⊎_elim, arith, get_or-set_other, get_or-set_same}
 use Rattle.std.proofs.lemmas.Bool.{cases_eq, cases_lt}
-use Rattle.std.proofs.lemmas.List.{get_or_past}
+use Rattle.std.proofs.lemmas.List.{get_or_past, get_or_append_left, get_or-append_right, get_or-drop}
 use Rattle.cost.proofs.Silent.{zeros}
 use Rattle.cost.specs.Levels.{Filled, level}
 
@@ -32,14 +32,22 @@ pub filled-same : (m n : ℕ) (a b : ℕ → ℤ) (before after : List ℤ) → 
 filled-same m n a b before after same made =
     record { filled = λ k lt. made.filled k lt ∙ same k lt; below = made.below; above = made.above }
 
--- a list written into zeros is the list with zeros after it
-pub filled-padded : (xs : List ℤ) (n k : ℕ) (ys : List ℤ) → k ≡ length xs →
-    Filled 0 k (λ j. get_or xs j (pos 0)) (replicate n (pos 0)) ys → (j : ℕ) → get_or ys j (pos 0) ≡ get_or xs j (pos 0)
-filled-padded xs n k ys e made j =
-    ⊎_elim
-    (λ lt. ap (λ i. get_or ys i (pos 0)) (sym (zero-add j)) ∙ made.filled j lt)
-    (λ le. made.above j (omega arith) ∙ zeros n j ∙ sym (get_or_past xs j (pos 0) (omega arith)))
-    (cases_lt j k)
+-- a list written over the front of zeros is the list with zeros after it
+pub written-zeros : (xs ys : List ℤ) (n : ℕ) → ys ≡ xs →
+    (j : ℕ) → get_or (ys ++ drop (length xs) (replicate n (pos 0))) j (pos 0) ≡ get_or xs j (pos 0)
+written-zeros xs ys n e j =
+    ap (λ (zs : List ℤ). get_or (zs ++ rest) j (pos 0)) e
+    ∙ ⊎_elim
+    (λ lt. get_or_append_left xs rest (pos 0) j lt)
+    (λ le.
+    get_or-append_right xs rest (length xs) j (pos 0) refl le
+    ∙ get_or-drop (length xs) (replicate n (pos 0)) (j - length xs) (pos 0)
+    ∙ zeros n (length xs + (j - length xs))
+    ∙ sym (get_or_past xs j (pos 0) le))
+    (cases_lt j (length xs))
+  where
+    rest : List ℤ
+    rest = drop (length xs) (replicate n (pos 0))
 
 -- while level m is being filled, the level above stays
 above-stays : (m k : ℕ) (block : ℕ → ℤ) (before after : List ℤ) → k ≤ 2 ^ m → Filled (2 ^ m) k block before after →

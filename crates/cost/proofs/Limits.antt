@@ -1,26 +1,18 @@
--- Steps of the loop that looks for a soft value out of range, and what its end says. Assumes nothing.
-use Rattle.std.proofs.Common.{◌≡◌, ℕ, zero, suc, ◌+◌, ◌<◌, ◌≤◌, List, [], ◌∷◌, length, get_or, drop, ℤ, pos, nat_abs, zero-le, arith}
-use Rattle.std.proofs.lemmas.List.Sums.{prefix_len-drop_yes, prefix_len-drop_no, prefix_len-drop_all}
-use Rattle.std.proofs.lemmas.Bool.{le-leb, lt-leb}
+-- What it says that no soft value is out of range. Assumes nothing.
+use Rattle.std.proofs.Common.{◌≡◌, ℕ, zero, suc, ◌≤◌, Bool, true, false, not, Option, List, [], ◌∷◌, length, get_or, ℤ, pos, nat_abs, sym, ap, ◌∙◌, zero-le, arith}
+use Rattle.std.specs.List.{position_or_len}
+use Rattle.std.specs.Option.{is_none, is_some}
 use Rattle.std.proofs.lemmas.Bool.Decides.{nat_tests}
-use Rattle.cost.specs.Limits.{in_range, range_front}
+use Rattle.cost.specs.Limits.{is_beyond, first_beyond}
 
-abbrev pub Passed : List ℤ → ℕ → Type 0
-Passed xs k = range_front xs ≡ k + range_front (drop k xs)
+within : (xs : List ℤ) → length xs ≤ position_or_len is_beyond xs → (k : ℕ) → nat_abs (get_or xs k (pos 0)) ≤ 1048576
+within [] e k = zero-le
+within (x ∷ xs) e zero = grind (arith, nat_tests)
+within (x ∷ xs) e (suc k) = let rest : length xs ≤ position_or_len is_beyond xs = grind (arith, nat_tests) in within xs rest k
 
-pub front_ends : (xs : List ℤ) (k : ℕ) → k < length xs → 1048576 < nat_abs (get_or xs k (pos 0)) → Passed xs k → k ≡ range_front xs
-front_ends xs k lt far passed =
-    omega (arith, prefix_len-drop_no in_range xs k (pos 0) lt (lt-leb (nat_abs (get_or xs k (pos 0))) 1048576 far))
+pub none-beyond : (xs : List ℤ) → is_none (first_beyond xs) ≡ true → (k : ℕ) → nat_abs (get_or xs k (pos 0)) ≤ 1048576
+none-beyond xs none = within xs (grind (arith, nat_tests))
 
-pub front-more : (xs : List ℤ) (k : ℕ) → k < length xs → nat_abs (get_or xs k (pos 0)) ≤ 1048576 → Passed xs k → Passed xs (k + 1)
-front-more xs k lt near passed =
-    omega (arith, prefix_len-drop_yes in_range xs k (pos 0) lt (le-leb (nat_abs (get_or xs k (pos 0))) 1048576 near))
-
-pub front-all : (xs : List ℤ) (k : ℕ) → k ≡ length xs → Passed xs k → length xs ≡ range_front xs
-front-all xs k e passed = omega (arith, prefix_len-drop_all in_range xs k (omega arith))
-
--- a slice whose front in range is all of it has no other value
-pub front-whole : (xs : List ℤ) → range_front xs ≡ length xs → (k : ℕ) → nat_abs (get_or xs k (pos 0)) ≤ 1048576
-front-whole [] e k = zero-le
-front-whole (x ∷ xs) e zero = grind (arith, nat_tests)
-front-whole (x ∷ xs) e (suc k) = let rest : range_front xs ≡ length xs = grind (arith, nat_tests) in front-whole xs rest k
+-- as a test of the answer says it
+pub not_some : {o p : Option ℕ} {b : Bool} → o ≡ p → b ≡ is_some o → b ≡ false → is_none p ≡ true
+not_some same test off = ap is_none (sym same) ∙ ap not (sym test ∙ off)

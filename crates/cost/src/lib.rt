@@ -9,11 +9,11 @@ pub mod value;
 
 pub use memo::Memo;
 pub use rows::Rows;
-pub use soft::{Soft, range_front};
+pub use soft::{Soft, first_beyond};
 
 #[cfg(test)]
 mod tests {
-    use crate::{Memo, Soft};
+    use crate::Soft;
     use bits::Row;
     use std::test::Fail;
 
@@ -45,7 +45,7 @@ mod tests {
             return Err(Fail::new("two values are a block"));
         };
         let mut scratch = [0; 4];
-        let mut memo = Memo::Blank;
+        let mut memo = None;
         let (none, one) = (path(false, false), path(true, false));
         assert_eq!(rt; block.decision_with(&mut memo, &none, 0, &mut scratch), -3);
         assert_eq!(rt; block.decision_with(&mut memo, &none, 1, &mut scratch), -2);

@@ -1,10 +1,8 @@
-// Which levels of decision values scratch holds. Assumes nothing.
+// Of which position of which path scratch holds the levels of decision values. Assumes nothing.
 use bits::Row;
 
 #[derive(Clone, Copy)]
-pub enum Memo {
-    // none that may be used
-    Blank,
-    // those of this position of this path
-    Holds { path: Row, at: usize },
+pub struct Memo {
+    pub path: Row,
+    pub at: usize,
 }

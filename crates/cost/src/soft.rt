@@ -6,7 +6,7 @@ mod levels;
 mod load;
 mod total;
 
-pub use load::range_front;
+pub use load::first_beyond;
 
 // 2^n LLRs; what lies beyond them is 0.
 #[derive(Clone, Copy, Drop)]

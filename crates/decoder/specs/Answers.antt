@@ -4,7 +4,7 @@ use Rattle.base.specs.declared.refusal.Phased.TheVariants as call
 use Rattle.base.specs.declared.refusal.Refusal.{Refusal}
 use Rattle.base.specs.declared.refusal.Refusal.TheVariants as refusal
 use Rattle.code.specs.Sending.{byte_of}
-use Rattle.cost.specs.Limits.{range_front}
+use Rattle.cost.specs.Limits.{first_beyond}
 use Rattle.plan.specs.declared.plan.Plan.{Plan}
 use Rattle.plan.specs.Plans.{block_length, payload_bits, check_bits}
 use Rattle.search.specs.Stores.{Contents, put_into, emptied_to}
@@ -25,14 +25,11 @@ use Rattle.decoder.specs.declared.phase.Phase.{Phase}
 abbrev pub fits_check : (bits longest : ℕ) → Plan → Bool
 fits_check bits longest plan = check_bits plan == bits && nat_le (payload_bits plan) longest
 
-abbrev pub first_bad_value : List ℤ → Option ℕ
-first_bad_value llrs = cond (range_front llrs == length llrs) None (Some (range_front llrs))
-
 abbrev pub request_of : (bits longest : ℕ) → Meaning → Plan → List ℤ → Limits → search.Request
 request_of bits longest check plan llrs limits = record {
   block = block_of plan (λ k. slice_index_or llrs k (pos 0)) check;
   fits = fits_check bits longest plan && (length llrs == block_length plan);
-  bad_value = first_bad_value llrs;
+  bad_value = first_beyond llrs;
   capacity = limits.capacity;
   failures = limits.failures;
   steps = limits.steps;

@@ -7,7 +7,7 @@ ghost use Rattle.cost.specs.Block.{llr_of, size_of};
 use base::Refusal;
 use block::received;
 use code::recover;
-use cost::{Soft, range_front};
+use cost::{Soft, first_beyond};
 use plan::Plan;
 
 // E at most
@@ -28,12 +28,9 @@ fn recovered(plan: &Plan, values: &[i16], llrs: &mut [i32]) -> Result<Soft, Refu
     ensures values { IfOk result (λ soft. (k : ℕ) → k < block_length plan.now → llr_of soft k ≡ soft_at plan.now (value_at values.now) k) }
 {
     recover(plan, values, llrs)?;
-    match Soft::new(usize::from(plan.log_length()), llrs) {
-        Some(soft) => Ok(soft),
-        None => Err(Refusal::Block {
-            at: range_front(llrs),
-        }),
-    }
+    Soft::new(usize::from(plan.log_length()), llrs).ok_or_else(|| Refusal::Block {
+        at: first_beyond(llrs).unwrap_or(0),
+    })
 }
 
 // The soft values that the received values in a body make under a plan.

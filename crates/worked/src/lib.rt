@@ -21,7 +21,7 @@ pub fn rules_as_worked() -> u8
     ensures remainder { RemainderOfOne }
     ensures spread { SpreadOfEight }
 {
-    let _ = pair_example();
+    pair_example();
     let _ = one_of_32();
     let _ = fixed_points();
     checks_as_worked()

@@ -9,7 +9,7 @@ use crate::{word, words};
 fn is_block(base: usize, n: usize) -> bool
     ensures { result ≡ is_aligned_block base n }
 {
-    n <= 10 && base < BITS && base % word::power(n) == 0
+    n <= 10 && base < BITS && base % (1 << n) == 0
 }
 
 impl Row {
@@ -26,7 +26,7 @@ impl Row {
         if n < 6 {
             self.words[first] = word::transform_block(self.words[first], base % 64, n);
         } else {
-            words::transform(&mut self.words[first..first + word::power(n - 6)], n - 6);
+            words::transform(&mut self.words[first..first + (1 << (n - 6))], n - 6);
         }
     }
 

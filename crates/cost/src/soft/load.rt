@@ -1,23 +1,17 @@
 // Taking a block's soft values from a slice, and reading them. Assumes nothing.
 ghost use Rattle.std.specs.Prelude.{◌≡◌, ℕ, ◌≤◌, true, false, length, pos, MatchOption, slice_index_or};
 ghost use Rattle.cost.specs.Block.{llr_of, size_of};
-ghost use Rattle.cost.specs.Limits.{is_loadable, range_front};
+ghost use Rattle.cost.specs.Limits.{is_loadable, first_beyond};
 
 use super::Soft;
-use crate::value::power;
 
 const LIMIT: u32 = 1_048_576;
 
-// How many values come before the first that is out of range.
-pub fn range_front(llrs: &[i32]) -> usize
-    ensures { result ≡ range_front llrs.now }
+// Which value is the first that is out of range, if any is.
+pub fn first_beyond(llrs: &[i32]) -> Option<usize>
+    ensures { result ≡ first_beyond llrs.now }
 {
-    for (k, value) in llrs.iter().enumerate() {
-        if value.unsigned_abs() > LIMIT {
-            return k;
-        }
-    }
-    llrs.len()
+    llrs.iter().position(|value| value.unsigned_abs() > LIMIT)
 }
 
 // The values, with zeros after them.
@@ -27,9 +21,7 @@ fn padded(llrs: &[i32]) -> [i32; 1024]
     ensures values { (j : ℕ) → slice_index_or result j (pos 0) ≡ slice_index_or llrs.now j (pos 0) }
 {
     let mut values = [0; 1024];
-    for (k, value) in llrs.iter().enumerate() {
-        values[k] = *value;
-    }
+    values[..llrs.len()].copy_from_slice(llrs);
     values
 }
 
@@ -48,7 +40,7 @@ impl Soft {
     pub fn new(n: usize, llrs: &[i32]) -> Option<Soft>
         ensures { MatchOption result (is_loadable n llrs.now ≡ false) (λ block. (is_loadable n llrs.now ≡ true) × (size_of block ≡ n) × ((k : ℕ) → llr_of block k ≡ slice_index_or llrs.now k (pos 0))) }
     {
-        if n > 10 || llrs.len() != power(n) || range_front(llrs) != llrs.len() {
+        if n > 10 || llrs.len() != 1 << n || first_beyond(llrs).is_some() {
             return None;
         }
         Some(Soft {

@@ -38,7 +38,13 @@ impl Block {
     }
 
     // The decision value at position i of the path in row, from what scratch holds of the last one.
-    pub fn decision(&self, memo: &mut Memo, path: &Row, i: usize, scratch: &mut [i32]) -> i32
+    pub fn decision(
+        &self,
+        memo: &mut Option<Memo>,
+        path: &Row,
+        i: usize,
+        scratch: &mut [i32],
+    ) -> i32
         requires place { i < block_length (plan_in self.now) }
         requires room { 2 * block_length (plan_in self.now) ≤ length scratch.old }
         requires held { HeldIn self.now memo.old scratch.old }

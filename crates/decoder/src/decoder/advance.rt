@@ -15,7 +15,6 @@ use crate::guard::Wiped;
 use crate::phase::Phase;
 use crate::report::{Met, Report};
 use base::{Phased, Refusal};
-use cost::Memo;
 use outer::Judge;
 use store::Store;
 
@@ -48,7 +47,7 @@ impl<S: Store, C: Judge> Decoder<S, C> {
         ensures room { room.new ≡ replicate (length room.old) (pos 0) }
     {
         let room = Wiped(room);
-        let mut memo = Memo::Blank;
+        let mut memo = None;
         for _ in 0..budget {
             if let Some(met) = self.halt() {
                 self.phase = Phase::Ended;

@@ -17,7 +17,7 @@ use crate::limits::Limits;
 use crate::phase::Phase;
 use crate::report::Report;
 use base::Refusal;
-use cost::range_front;
+use cost::first_beyond;
 use outer::Judge;
 use plan::Plan;
 use store::{BLANK, Store};
@@ -40,12 +40,9 @@ impl<S: Store, C: Judge> Decoder<S, C> {
         if !self.may_load(plan, llrs, limits) {
             return Err(Refusal::Block { at: 0 });
         }
-        match Block::new(plan, llrs) {
-            Some(block) => Ok(block),
-            None => Err(Refusal::Block {
-                at: range_front(llrs),
-            }),
-        }
+        Block::new(plan, llrs).ok_or_else(|| Refusal::Block {
+            at: first_beyond(llrs).unwrap_or(0),
+        })
     }
 
     // Makes the path of length 0 the only one that is kept.

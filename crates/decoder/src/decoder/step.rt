@@ -74,7 +74,7 @@ impl<S: Store, C: Judge> Decoder<S, C> {
     }
 
     // Puts the children of c, 0 before 1.
-    fn put_children(&mut self, c: Candidate, memo: &mut Memo, scratch: &mut [i32])
+    fn put_children(&mut self, c: Candidate, memo: &mut Option<Memo>, scratch: &mut [i32])
         requires place { c.length < block_length (plan_in self.old.block) }
         requires room { 2 * block_length (plan_in self.old.block) ≤ length scratch.old }
         requires held { HeldIn self.old.block memo.old scratch.old }
@@ -131,7 +131,7 @@ impl<S: Store, C: Judge> Decoder<S, C> {
     }
 
     // Takes the first candidate, and judges it or puts its children.
-    pub(crate) fn step(&mut self, memo: &mut Memo, scratch: &mut [i32])
+    pub(crate) fn step(&mut self, memo: &mut Option<Memo>, scratch: &mut [i32])
         requires room { 2 * block_length (plan_in self.old.block) ≤ length scratch.old }
         requires held { HeldIn self.old.block memo.old scratch.old }
         ensures model { Sound (meanings S.kept S.capacity S.floor C.accepted C.hopeless C.carried) self.old → self.old.phase ≡ phase.Searching → self.old.counts.steps < self.old.counts.most_steps → self.old.counts.failures < self.old.counts.most_failures → loaded_of (meanings S.kept S.capacity S.floor C.accepted C.hopeless C.carried) self.new ≡ search.step ruled (loaded_of (meanings S.kept S.capacity S.floor C.accepted C.hopeless C.carried) self.old) }

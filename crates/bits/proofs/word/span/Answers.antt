@@ -1,17 +1,23 @@
-use Rattle.std.proofs.Common.{◌+◌, ◌-◌, ◌*◌, ◌%◌, ◌^◌, ◌&&◌, ltb, leb, ap, ◌∙◌, arith, pow_pos}
+use Rattle.std.proofs.Common.{◌≡◌, ℕ, ◌-◌, ◌*◌, ◌%◌, ◌^◌, ◌<◌, ap, ◌∙◌, arith, pow_pos}
 use lib.Pow.{pow-lt}
+use Rattle.std.proofs.lemmas.Nat.{one_shl}
 use Rattle.base.specs.Bits.{bit_of}
 use Rattle.bits.proofs.Masks.{bit-span}
 use Rattle.bits.proofs.word.span.Goals as goal
 
-pub single-requires : goal.single-requires
-single-requires c = omega (arith, pow-lt c.requires.width.0)
+size : (n : ℕ) → n < 6 → 1 * 2 ^ n % 2 ^ 64 ≡ 2 ^ n
+size n small = one_shl n 64 (omega arith)
+
+beyond : (n : ℕ) → n < 6 → 1 * 2 ^ (1 * 2 ^ n % 2 ^ 64) % 2 ^ 64 ≡ 2 ^ (2 ^ n)
+beyond n small = ap (λ p. 1 * 2 ^ p % 2 ^ 64) (size n small) ∙ one_shl (2 ^ n) 64 (pow-lt small)
+
+pub overflow_shl-result-2 : goal.overflow_shl-result-2
+overflow_shl-result-2 c = omega (arith, size c.args.n c.requires.width.0, pow-lt c.requires.width.0)
 
 pub overflow_sub-result : goal.overflow_sub-result
-overflow_sub-result c = omega (arith, c.single.ensures, pow_pos c.power.result)
+overflow_sub-result c = omega (arith, beyond c.args.n c.requires.width.0, pow_pos (2 ^ c.args.n))
 
 pub returns : goal.returns
 returns c = λ k h.
-    ap (λ m. bit_of ((m - 1) * 2 ^ c.args.offset % 2 ^ 64) k) c.single.ensures
-    ∙ bit-span c.power.result c.args.offset k h
-    ∙ ap (λ p. leb c.args.offset k && ltb k (c.args.offset + p)) c.power.ensures
+    ap (λ m. bit_of ((m - 1) * 2 ^ c.args.offset % 2 ^ 64) k) (beyond c.args.n c.requires.width.0)
+    ∙ bit-span (2 ^ c.args.n) c.args.offset k h

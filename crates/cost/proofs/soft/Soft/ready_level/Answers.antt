@@ -10,14 +10,14 @@ shared_level-requires c =
     let short : 2 ^ c.args.self.now.n ≤ 2 ^ 10 = pow_mono c.args.self.now.size in
     record { size = (c.args.self.now.size, let h = c.requires.place in omega arith) }
 
-pub returns-in-Holds : goal.returns-in-Holds
-returns-in-Holds c =
+pub returns-in-Some : goal.returns-in-Some
+returns-in-Some c =
     let d = c.args.self.now in
     let xs = c.args.scratch.now in
-    let last = subst (λ m. Held d.n (llr_of d) m xs) c.in-Holds.is c.requires.held in
+    let last = subst (λ m. Held d.n (llr_of d) m xs) c.in-Some.is c.requires.held in
     record {
       inside = c.shared_level.ensures.inside;
-      levels = levels-shared d.n c.shared_level.result (llr_of d) (row_bit c.args.row.now) c.args.i (row_bit c.in-Holds.path) c.in-Holds.at xs c.shared_level.ensures.shared last;
+      levels = levels-shared d.n c.shared_level.result (llr_of d) (row_bit c.args.row.now) c.args.i (row_bit c.in-Some.last.path) c.in-Some.last.at xs c.shared_level.ensures.shared last;
       before = refl;
       rest = λ j le. refl;
     }
