@@ -1,9 +1,24 @@
 -- That the order of candidates is strict and total, and goes by the metric first. Assumes nothing.
-use Rattle.std.proofs.Common.{◌≡◌, ℕ, Bool, true, ltb, arith}
+use Rattle.std.proofs.Common.{◌≡◌, ℕ, Bool, true, ltb, nat_lt, ap, ◌∙◌, arith}
 use Rattle.std.proofs.lemmas.Bool.Decides.{nat_tests}
 use Rattle.store.specs.declared.candidate.Candidate.{Candidate}
 use Rattle.store.proofs.Inserts.{Strict}
-use Rattle.store.specs.Order.{lex, before, NoneBeforeItself, OrderCarriesOver, UnorderedAreEqual, EarlierCostsNoMore}
+use Rattle.std.specs.Ordering.{is_lt, nat_cmp, ordering_then}
+use Rattle.std.specs.declared.cmp.Ordering.{Ordering}
+use Rattle.store.specs.Order.{lex, before, compared, NoneBeforeItself, OrderCarriesOver, UnorderedAreEqual, EarlierCostsNoMore}
+
+-- the lesser comes first
+then_lex : (x y : ℕ) (o : Ordering) → is_lt (ordering_then (nat_cmp x y) o) ≡ lex x y (is_lt o)
+then_lex x y o = grind (arith, nat_tests)
+
+below : (x y : ℕ) → is_lt (nat_cmp x y) ≡ nat_lt x y
+below x y = grind (arith, nat_tests)
+
+pub lesser-before : (a b : Candidate) → is_lt (compared a b) ≡ before a b
+unfolding before
+lesser-before a b =
+    then_lex a.metric b.metric _
+    ∙ ap (lex a.metric b.metric) (then_lex b.length a.length _ ∙ ap (lex b.length a.length) (then_lex a.serial b.serial _ ∙ ap (lex a.serial b.serial) (below a.row b.row)))
 
 pub none-before-itself : NoneBeforeItself
 unfolding before

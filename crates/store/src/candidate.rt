@@ -1,6 +1,12 @@
 // A candidate of the search, and which of two comes first. Assumes nothing.
+ghost use Rattle.std.specs.Cmp.{partial_order_from_own_ties};
+ghost use Rattle.std.specs.Cmp.Rules.{comparing};
+ghost use Rattle.std.specs.Ordering.{as_partial_cmp};
 ghost use Rattle.std.specs.Prelude.{◌≡◌};
-ghost use Rattle.store.specs.Order.{before};
+ghost use Rattle.std.proofs.Common.{rules};
+ghost use Rattle.store.specs.Order.{before, compared};
+
+use std::cmp::Ordering;
 
 // A path that waits to be taken.
 #[derive(Clone, Copy, PartialEq, Eq, Debug)]
@@ -19,15 +25,34 @@ impl Candidate {
     pub fn before(&self, other: &Candidate) -> bool
         ensures result { result ≡ before self.now other.now }
     {
-        if self.metric != other.metric {
-            return self.metric < other.metric;
-        }
-        if self.length != other.length {
-            return self.length > other.length;
-        }
-        if self.serial != other.serial {
-            return self.serial < other.serial;
-        }
-        self.row < other.row
+        self < other
+    }
+}
+
+impl Ord for Candidate {
+    ghost cmp = { compared };
+
+    ghost total = { Prim.search (comparing, rules) };
+
+    ghost matches_partial_cmp = { Prim.search (comparing, rules) };
+
+    ghost matches_eq = { Prim.search (comparing, rules) };
+
+    fn cmp(&self, other: &Candidate) -> Ordering {
+        self.metric
+            .cmp(&other.metric)
+            .then(other.length.cmp(&self.length))
+            .then(self.serial.cmp(&other.serial))
+            .then(self.row.cmp(&other.row))
+    }
+}
+
+impl PartialOrd for Candidate {
+    ghost partial_cmp = { as_partial_cmp compared };
+
+    ghost laws = { partial_order_from_own_ties (Prim.search (comparing, rules) depth 9) (Prim.search (comparing, rules) depth 9) };
+
+    fn partial_cmp(&self, other: &Candidate) -> Option<Ordering> {
+        Some(self.cmp(other))
     }
 }

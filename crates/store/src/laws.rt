@@ -2,44 +2,30 @@
 ghost use Rattle.store.specs.Order.{NoneBeforeItself, OrderCarriesOver, UnorderedAreEqual, EarlierCostsNoMore};
 ghost use Rattle.store.specs.Promises.{PutIsAccounted, TakeIsLeastAndAccounted, TakeIsAbsentExactlyWhenEmpty};
 
-pub fn none_before_itself() -> u8
+pub fn none_before_itself()
     ensures { NoneBeforeItself }
-{
-    0
-}
+{}
 
-pub fn order_carries_over() -> u8
+pub fn order_carries_over()
     ensures { OrderCarriesOver }
-{
-    0
-}
+{}
 
-pub fn unordered_are_equal() -> u8
+pub fn unordered_are_equal()
     ensures { UnorderedAreEqual }
-{
-    0
-}
+{}
 
-pub fn earlier_costs_no_more() -> u8
+pub fn earlier_costs_no_more()
     ensures { EarlierCostsNoMore }
-{
-    0
-}
+{}
 
-pub fn put_is_accounted() -> u8
+pub fn put_is_accounted()
     ensures { PutIsAccounted }
-{
-    0
-}
+{}
 
-pub fn take_is_least_and_accounted() -> u8
+pub fn take_is_least_and_accounted()
     ensures { TakeIsLeastAndAccounted }
-{
-    0
-}
+{}
 
-pub fn take_is_absent_exactly_when_empty() -> u8
+pub fn take_is_absent_exactly_when_empty()
     ensures { TakeIsAbsentExactlyWhenEmpty }
-{
-    0
-}
+{}
