@@ -155,19 +155,6 @@ sound-parts c a w h =
     let f = fitting-tells (longest c) (width c) a (length w) p.0 in
     (f.0, f.1, not-true _ p.1)
 
--- the code's two answers: h and l are its longest and width, t whether the lengths fit
-pub sound-fit : (c : Spread) (a : ℕ) (w : List Bool) (h l : ℕ) (t r : Bool) → h ≡ longest c → l ≡ width c
-    → t ≡ fitting h l a (length w) → t ≡ true → r ≡ broken c a w → not r ≡ sound c a w
-unfolding sound
-sound-fit c a w h l t r eh el et y er =
-    ap₂ (λ x z. x && not z) (sym y ∙ et ∙ ap₂ (λ m n. fitting m n a (length w)) eh el) er
-
-pub unsound-unfit : (c : Spread) (a : ℕ) (w : List Bool) (h l : ℕ) (t : Bool) → h ≡ longest c → l ≡ width c
-    → t ≡ fitting h l a (length w) → t ≡ false → t ≡ sound c a w
-unfolding sound
-unsound-unfit c a w h l t eh el et n =
-    n ∙ ap (λ x. x && not (broken c a w)) (sym n ∙ et ∙ ap₂ (λ m n. fitting m n a (length w)) eh el)
-
 pub sound-hopeful : (c : Spread) (a : ℕ) (w : List Bool) (m : ℕ) → sound c a w ≡ true → broken c a (take m w) ≡ false
 sound-hopeful c a w m h =
     let p = sound-parts c a w h in

@@ -1,11 +1,10 @@
 -- The payload of a shown word, as it is read and written. Assumes nothing.
-use Rattle.std.proofs.Common.{◌≡◌, ℕ, ◌+◌, ◌<◌, ◌≤◌, Bool, true, false, cond, List, [], ◌∷◌, ◌++◌, map, length, get_or, take, set, sym, ap, ◌∙◌, subst, ap₂}
+use Rattle.std.proofs.Common.{◌≡◌, ℕ, ◌+◌, ◌<◌, ◌≤◌, Bool, true, false, List, [], ◌∷◌, ◌++◌, map, length, get_or, take, set, sym, ap, ◌∙◌, subst, ap₂, arith, Result, is_ok, OnOk}
 use Rattle.std.proofs.lemmas.List.{map_more, take_more_set}
-use Rattle.std.proofs.lemmas.Bool.{cond-true}
 use Rattle.code.specs.Sending.{byte_of}
 use Rattle.cost.specs.Rows.{path_at}
 use Rattle.crc.specs.Lengths.{fitting}
-use Rattle.crc.proofs.Fitting.{fitting-from}
+use Rattle.crc.proofs.Fitting.{fitting-answered}
 use Rattle.plan.specs.declared.plan.Plan.{Plan}
 use Rattle.plan.specs.Plans.{block_length, payload_bits}
 use Rattle.store.specs.declared.candidate.Candidate.{Candidate}
@@ -24,12 +23,11 @@ bytes-more bits out k v inside room value inv =
 
 -- what a read leaves in the payload's place, where the word is accepted
 pub read-accepted :
-    (longest bits : ℕ) (carried : ℕ → List Bool → List Bool) (a : ℕ) (word before after : List Bool) (r : Bool) → (a ≤ longest) × (length word ≡ a + bits)
-    → length before ≡ a → r ≡ fitting longest bits (length before) (length word) → after ≡ cond r (carried (length before) word) before → after ≡ carried a word
+    {E : Type 0} (longest bits : ℕ) (carried : ℕ → List Bool → List Bool) (a : ℕ) (word before after : List Bool) (r : Result (Unit {0}) E)
+    → (a ≤ longest) × (length word ≡ a + bits) → length before ≡ a → is_ok r ≡ fitting longest bits (length before) (length word)
+    → OnOk r (after ≡ carried (length before) word) → after ≡ carried a word
 read-accepted longest bits carried a word before after r (most, whole) size answer written =
-    written
-    ∙ cond-true r (carried (length before) word) before (answer ∙ fitting-from longest bits (length before) (length word) (subst (λ n. n ≤ longest) (sym size) most) (whole ∙ ap (λ n. n + bits) (sym size)))
-    ∙ ap (λ n. carried n word) size
+    fitting-answered longest bits (length before) (length word) r answer (omega arith) (omega arith) written ∙ ap (λ n. carried n word) size
 
 -- the payload of a shown word is what the check carries in the information bits of its path
 pub shown-payload :

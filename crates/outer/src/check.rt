@@ -1,7 +1,9 @@
 // What a check is: two traits by their meaning. Assumes nothing.
 // A payload of a bits becomes a word of a + bits bits, for every a up to the longest; beyond it nothing is accepted.
-ghost use Rattle.std.specs.Prelude.{◌≡◌, ℕ, ◌+◌, ◌≤◌, Bool, true, false, List, length, take, if◌then◌else◌};
+ghost use Rattle.std.specs.Prelude.{◌≡◌, ℕ, ◌+◌, ◌≤◌, Bool, true, false, List, length, take, OnOk, OnErr, is_ok};
 ghost use Rattle.crc.specs.Lengths.{fitting};
+
+use super::misfit::Misfit;
 
 // A check that judges words and beginnings of words, and reads payloads.
 pub trait Judge {
@@ -40,10 +42,11 @@ pub trait Judge {
         ensures { result ≡ hopeless self.now a beginning.now };
 
     // Writes the payload of a word into a buffer of the payload's length. Where the lengths are no payload's and word's
-    // it writes nothing and says false.
-    fn read(&self, word: &[bool], payload: &mut [bool]) -> bool
-        ensures result { result ≡ fitting (longest self.now) (bits self.now) (length payload.old) (length word.now) }
-        ensures output { payload.new ≡ (if result then carried self.now (length payload.old) word.now else payload.old) };
+    // it writes nothing.
+    fn read(&self, word: &[bool], payload: &mut [bool]) -> Result<(), Misfit>
+        ensures result { is_ok result ≡ fitting (longest self.now) (bits self.now) (length payload.old) (length word.now) }
+        ensures ok { OnOk result (payload.new ≡ carried self.now (length payload.old) word.now) }
+        ensures err { OnErr result (payload.new ≡ payload.old) };
 
     ghost few: { (c : Self) → bits c ≤ 24 };
 
@@ -62,10 +65,11 @@ pub trait Finish: Judge {
     ghost finished: { Self → List Bool → List Bool };
 
     // Writes the finished form of a payload into a buffer of the word's length. Where the lengths are no payload's and
-    // word's it writes nothing and says false.
-    fn finish(&self, payload: &[bool], word: &mut [bool]) -> bool
-        ensures result { result ≡ fitting (Self.Judge.longest self.now) (Self.Judge.bits self.now) (length payload.now) (length word.old) }
-        ensures output { word.new ≡ (if result then finished self.now payload.now else word.old) };
+    // word's it writes nothing.
+    fn finish(&self, payload: &[bool], word: &mut [bool]) -> Result<(), Misfit>
+        ensures result { is_ok result ≡ fitting (Self.Judge.longest self.now) (Self.Judge.bits self.now) (length payload.now) (length word.old) }
+        ensures ok { OnOk result (word.new ≡ finished self.now payload.now) }
+        ensures err { OnErr result (word.new ≡ word.old) };
 
     ghost finished_accepted: { (c : Self) (p : List Bool) → length p ≤ Self.Judge.longest c → Self.Judge.accepted c (length p) (finished c p) ≡ true };
 

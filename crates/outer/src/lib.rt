@@ -5,6 +5,7 @@ mod check;
 mod division;
 mod examples;
 mod lengths;
+mod misfit;
 mod none;
 mod pattern;
 mod spread;
@@ -14,6 +15,7 @@ mod trailing;
 pub use check::{Finish, Judge};
 pub use crc::Spread;
 pub use examples::checks_as_worked;
+pub use misfit::Misfit;
 pub use none::NoCheck;
 pub use trailing::Trailing;
 

@@ -7,6 +7,7 @@ ghost use Rattle.std.proofs.lemmas.Bool.Decides.{nat_tests};
 
 use super::check::{Finish, Judge};
 use super::lengths::fits;
+use super::misfit::Misfit;
 
 const LONGEST: usize = 512;
 
@@ -45,7 +46,7 @@ impl Judge for NoCheck {
     }
 
     fn accepts(&self, a: usize, word: &[bool]) -> bool {
-        fits(LONGEST, 0, a, word.len())
+        fits(LONGEST, 0, a, word.len()).is_ok()
     }
 
     fn watches(&self) -> bool {
@@ -56,12 +57,10 @@ impl Judge for NoCheck {
         false
     }
 
-    fn read(&self, word: &[bool], payload: &mut [bool]) -> bool {
-        if !fits(LONGEST, 0, payload.len(), word.len()) {
-            return false;
-        }
+    fn read(&self, word: &[bool], payload: &mut [bool]) -> Result<(), Misfit> {
+        fits(LONGEST, 0, payload.len(), word.len())?;
         payload.copy_from_slice(word);
-        true
+        Ok(())
     }
 }
 
@@ -74,11 +73,9 @@ impl Finish for NoCheck {
 
     ghost accepted_finished = { λ c a w h. let k : length w ≤ a = Prim.grind (arith, nat_tests) in take_all a w k };
 
-    fn finish(&self, payload: &[bool], word: &mut [bool]) -> bool {
-        if !fits(LONGEST, 0, payload.len(), word.len()) {
-            return false;
-        }
+    fn finish(&self, payload: &[bool], word: &mut [bool]) -> Result<(), Misfit> {
+        fits(LONGEST, 0, payload.len(), word.len())?;
         word.copy_from_slice(payload);
-        true
+        Ok(())
     }
 }

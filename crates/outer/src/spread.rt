@@ -6,6 +6,7 @@ ghost use Rattle.std.proofs.Common.{rules};
 
 use super::check::{Finish, Judge};
 use super::lengths::fits;
+use super::misfit::Misfit;
 use super::pattern::{bit_at, longest_of, width_of};
 use super::sums::{check_bits, disagrees, entered, value_of};
 use crc::Spread;
@@ -108,7 +109,7 @@ impl Judge for Spread {
     }
 
     fn accepts(&self, a: usize, word: &[bool]) -> bool {
-        fits(longest_of(*self), width_of(*self), a, word.len()) && !breaks(*self, a, word)
+        fits(longest_of(*self), width_of(*self), a, word.len()).is_ok() && !breaks(*self, a, word)
     }
 
     fn watches(&self) -> bool {
@@ -119,17 +120,15 @@ impl Judge for Spread {
         a <= longest_of(*self) && breaks(*self, a, beginning)
     }
 
-    fn read(&self, word: &[bool], payload: &mut [bool]) -> bool {
-        if !fits(
+    fn read(&self, word: &[bool], payload: &mut [bool]) -> Result<(), Misfit> {
+        fits(
             longest_of(*self),
             width_of(*self),
             payload.len(),
             word.len(),
-        ) {
-            return false;
-        }
+        )?;
         deinterleave(*self, word, payload);
-        true
+        Ok(())
     }
 }
 
@@ -142,16 +141,14 @@ impl Finish for Spread {
 
     ghost accepted_finished = { λ c a w h. sound-interleaved c a w h };
 
-    fn finish(&self, payload: &[bool], word: &mut [bool]) -> bool {
-        if !fits(
+    fn finish(&self, payload: &[bool], word: &mut [bool]) -> Result<(), Misfit> {
+        fits(
             longest_of(*self),
             width_of(*self),
             payload.len(),
             word.len(),
-        ) {
-            return false;
-        }
+        )?;
         interleave(*self, payload, word);
-        true
+        Ok(())
     }
 }

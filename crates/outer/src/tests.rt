@@ -1,5 +1,6 @@
 // Words by hand from the definitions of the checks, and every kind there and back. Assumes nothing.
 use super::check::{Finish, Judge};
+use super::misfit::Misfit;
 use super::none::NoCheck;
 use super::trailing::Trailing;
 use crc::Spread;
@@ -8,7 +9,7 @@ use std::process::Abort;
 #[test]
 fn six_check_bits_of_one(rt: HostRuntime) {
     let mut word = [false; 7];
-    assert!(rt; Trailing::Six.finish(&[true], &mut word));
+    assert!(rt; Trailing::Six.finish(&[true], &mut word).is_ok());
     assert!(rt; word == [true, true, false, false, false, false, true]);
     assert!(rt; !Trailing::Six.is_hopeless(1, &[false, true]));
     word[3] = true;
@@ -19,7 +20,7 @@ fn six_check_bits_of_one(rt: HostRuntime) {
 fn four_spread_check_bits(rt: HostRuntime) {
     let payload = [true, false, false, false, false, false, false, false];
     let mut word = [false; 12];
-    assert!(rt; Spread::Four.finish(&payload, &mut word));
+    assert!(rt; Spread::Four.finish(&payload, &mut word).is_ok());
     assert!(rt;
         word == [
             true, false, false, true, false, false, false, false, false, true, false, false,
@@ -39,10 +40,10 @@ fn there_and_back<C: Finish>(
     back: &mut [bool],
 ) {
     let a = payload.len();
-    assert!(rt; kind.finish(payload, word));
+    assert!(rt; kind.finish(payload, word).is_ok());
     assert!(rt; kind.accepts(a, word));
     assert!(rt; !kind.is_hopeless(a, word));
-    assert!(rt; kind.read(word, back));
+    assert!(rt; kind.read(word, back).is_ok());
     let back: &[bool] = back;
     assert!(rt; payload == back);
     assert!(rt; !kind.accepts(a / 2, word));
@@ -58,7 +59,7 @@ fn no_check_there_and_back(rt: HostRuntime) {
         &mut [false; 512],
         &mut [false; 512],
     );
-    assert!(rt; !NoCheck.finish(&[true; 513], &mut [false; 513]));
+    assert!(rt; NoCheck.finish(&[true; 513], &mut [false; 513]) == Err(Misfit));
 }
 
 #[test]

@@ -8,6 +8,7 @@ ghost use Rattle.std.proofs.Common.{rules};
 use super::check::{Finish, Judge};
 use super::division::divide;
 use super::lengths::fits;
+use super::misfit::Misfit;
 
 const LONGEST: usize = 512;
 
@@ -98,7 +99,7 @@ impl Judge for Trailing {
     }
 
     fn accepts(&self, a: usize, word: &[bool]) -> bool {
-        if !fits(LONGEST, self.check_bits(), a, word.len()) {
+        if fits(LONGEST, self.check_bits(), a, word.len()).is_err() {
             return false;
         }
         let mut again = [false; LONGEST_WORD];
@@ -113,13 +114,11 @@ impl Judge for Trailing {
         false
     }
 
-    fn read(&self, word: &[bool], payload: &mut [bool]) -> bool {
+    fn read(&self, word: &[bool], payload: &mut [bool]) -> Result<(), Misfit> {
         let a = payload.len();
-        if !fits(LONGEST, self.check_bits(), a, word.len()) {
-            return false;
-        }
+        fits(LONGEST, self.check_bits(), a, word.len())?;
         payload.copy_from_slice(&word[0..a]);
-        true
+        Ok(())
     }
 }
 
@@ -132,12 +131,10 @@ impl Finish for Trailing {
 
     ghost accepted_finished = { λ c a w h. sound-followed c a w h };
 
-    fn finish(&self, payload: &[bool], word: &mut [bool]) -> bool {
+    fn finish(&self, payload: &[bool], word: &mut [bool]) -> Result<(), Misfit> {
         let a = payload.len();
-        if !fits(LONGEST, self.check_bits(), a, word.len()) {
-            return false;
-        }
+        fits(LONGEST, self.check_bits(), a, word.len())?;
         self.lay(payload, word);
-        true
+        Ok(())
     }
 }

@@ -14,7 +14,7 @@ use plan::fixed_points;
 
 // What the four paths over soft values 3 and -5 cost; the code word of u5 alone at N = 32; the order of places at N = 64,
 // a plan with parity, two modes and two bounds on low positions; a remainder; a spread word and a hopeless beginning.
-pub fn rules_as_worked() -> u8
+pub fn rules_as_worked()
     ensures costs { CostsOfAPair }
     ensures transform { OneOf32 }
     ensures plan { FixedPoints }
@@ -24,5 +24,5 @@ pub fn rules_as_worked() -> u8
     pair_example();
     let _ = one_of_32();
     let _ = fixed_points();
-    checks_as_worked()
+    checks_as_worked();
 }

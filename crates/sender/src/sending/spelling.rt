@@ -1,5 +1,5 @@
 // The steps of sending, spelled out as bits. Assumes nothing.
-ghost use Rattle.std.specs.Prelude.{◌≡◌, ◌≤◌, map, length, IfOk, if◌then◌else◌};
+ghost use Rattle.std.specs.Prelude.{◌≡◌, ◌≤◌, map, length, IfOk, OnOk, OnErr, is_ok};
 ghost use Rattle.std.specs.List.{range_with_len};
 ghost use Rattle.block.specs.Codes.{check_bits, longest_payload};
 ghost use Rattle.code.specs.Laying.{bits_of, laid_at};
@@ -10,7 +10,7 @@ ghost use Rattle.sender.specs.Sends.{SentFor};
 use crate::failure::Failure;
 use block::CheckCode;
 use code::{Coded, Laid};
-use outer::{Finish, NoCheck, Spread, Trailing};
+use outer::{Finish, Misfit, NoCheck, Spread, Trailing};
 use plan::Plan;
 use std::alloc::{AllocError, Global};
 
@@ -31,9 +31,10 @@ fn bits_of(heap: Global, bytes: &[u8]) -> Result<Vec<bool>, AllocError>
 }
 
 // Finishes a payload under the check that a code names.
-fn finish_under(check: CheckCode, payload: &[bool], word: &mut [bool]) -> bool
-    ensures result { result ≡ fitting (longest_payload check) (check_bits check) (length payload.now) (length word.old) }
-    ensures output { word.new ≡ (if result then finished_by check payload.now else word.old) }
+fn finish_under(check: CheckCode, payload: &[bool], word: &mut [bool]) -> Result<(), Misfit>
+    ensures result { is_ok result ≡ fitting (longest_payload check) (check_bits check) (length payload.now) (length word.old) }
+    ensures ok { OnOk result (word.new ≡ finished_by check payload.now) }
+    ensures err { OnErr result (word.new ≡ word.old) }
 {
     match check {
         CheckCode::None => NoCheck.finish(payload, word),

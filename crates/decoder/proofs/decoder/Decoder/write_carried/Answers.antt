@@ -9,4 +9,4 @@ returns g c = λ accepted.
     let a = length c.args.output.now in
     let word = c.args.word.now in
     c.write_bytes.ensures
-    ∙ ap (map byte_of) (read-accepted (g.C.Judge.longest check) (g.C.Judge.bits check) (g.C.Judge.carried check) a word c.args.payload.now c.read.new.payload c.read.result (g.met.C.Judge.accepted_length check a word accepted) c.requires.size c.read.ensures.result c.read.ensures.output)
+    ∙ ap (map byte_of) (read-accepted (g.C.Judge.longest check) (g.C.Judge.bits check) (g.C.Judge.carried check) a word c.args.payload.now c.read.new.payload c.read.result (g.met.C.Judge.accepted_length check a word accepted) c.requires.size c.read.ensures.result c.read.ensures.ok)

@@ -1,15 +1,15 @@
-use Rattle.std.proofs.Common.{length, sym, ap, ◌∙◌}
+use Rattle.std.proofs.Common.{◌≡◌, true, false, length, sym, ◌∙◌, rules}
 use Rattle.crc.specs.Lengths.{fitting}
+use Rattle.outer.specs.Trailing.{width}
 use Rattle.outer.specs.Followed.{unfit-unsound, sound-repeats}
 use Rattle.outer.proofs.trailing.TrailingJudge.accepts.Goals as goal
 
-pub returns-then-not-fits : goal.returns-then-not-fits
-returns-then-not-fits c =
-    sym (unfit-unsound c.args.self.now c.args.a c.args.word.now
-    (sym (c.if-not-fits.ensures ∙ ap (λ n. fitting 512 n c.args.a (length c.args.word.now)) c.check_bits.ensures)))
+pub returns-then-is_err : goal.returns-then-is_err
+returns-then-is_err c =
+    let unfit : fitting 512 (width c.args.self.now) c.args.a (length c.args.word.now) ≡ false = search rules in
+    sym (unfit-unsound c.args.self.now c.args.a c.args.word.now unfit)
 
 pub returns : goal.returns
 returns c =
-    c.repeats.ensures
-    ∙ sound-repeats c.args.self.now c.args.a c.args.word.now
-    (sym (c.if-not-fits.ensures ∙ ap (λ n. fitting 512 n c.args.a (length c.args.word.now)) c.check_bits.ensures))
+    let fit : fitting 512 (width c.args.self.now) c.args.a (length c.args.word.now) ≡ true = search rules in
+    c.repeats.ensures ∙ sound-repeats c.args.self.now c.args.a c.args.word.now fit

@@ -16,4 +16,4 @@ returns c =
     ∙ finished-is c.args.check c.args.payload.now c.as_slice.result.now _ c.finish_under.new.word c.finish_under.result
     (c.as_slice.ensures.value ∙ c.in_ok-bits.ensures) c.requires.taken
     (front_length _ (length c.args.payload.now + c.from.result) few ∙ ap (λ (l : ℕ). length c.args.payload.now + l) bits)
-    c.finish_under.ensures.result c.finish_under.ensures.output
+    c.finish_under.ensures.result c.finish_under.ensures.ok
