@@ -1,9 +1,10 @@
 -- The codes of outer checks and candidate stores; a code that is not listed has none. Assumes nothing.
-use Rattle.std.specs.Prelude.{ℕ, cond, Some, None, Option, ◌==◌}
+use Rattle.std.specs.Prelude.{◌≡◌, ℕ, cond, Some, None, Option, Ok, Err, Result, ◌==◌}
 use Rattle.block.specs.declared.code.CheckCode.{CheckCode}
 use Rattle.block.specs.declared.code.CheckCode.TheVariants as check
 use Rattle.block.specs.declared.code.StoreCode.{StoreCode}
 use Rattle.block.specs.declared.code.StoreCode.TheVariants as store
+use Rattle.block.specs.declared.unlisted.Unlisted.{Unlisted}
 
 abbrev pub check_of : ℕ → Option CheckCode
 check_of code =
@@ -15,6 +16,15 @@ check_of code =
 
 abbrev pub store_of : ℕ → Option StoreCode
 store_of code = cond (code == 0) (Some store.Table) (cond (code == 1) (Some store.Heap) None)
+
+-- what reading a code answers: what it names, or the code itself where it is not listed
+abbrev pub CheckListed : ℕ → Result CheckCode Unlisted → Type 0
+CheckListed code (Ok c) = check_of code ≡ Some c
+CheckListed code (Err e) = (check_of code ≡ None) × (e.0 ≡ code)
+
+abbrev pub StoreListed : ℕ → Result StoreCode Unlisted → Type 0
+StoreListed code (Ok s) = store_of code ≡ Some s
+StoreListed code (Err e) = (store_of code ≡ None) × (e.0 ≡ code)
 
 -- the check bits L of a check
 abbrev pub check_bits : CheckCode → ℕ
@@ -31,3 +41,11 @@ longest_payload check.Trailing6 = 512
 longest_payload check.Trailing11 = 512
 longest_payload check.Spread4 = 8
 longest_payload check.Spread24 = 140
+
+-- the code of a check is L
+abbrev pub check_code : CheckCode → ℕ
+check_code c = check_bits c
+
+abbrev pub store_code : StoreCode → ℕ
+store_code store.Table = 0
+store_code store.Heap = 1

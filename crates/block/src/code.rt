@@ -1,6 +1,9 @@
 // The codes by which a block file names an outer check and a candidate store. Assumes nothing.
 ghost use Rattle.std.specs.Prelude.{◌≡◌};
-ghost use Rattle.block.specs.Codes.{check_of, store_of, check_bits, longest_payload};
+ghost use Rattle.block.specs.Codes.{CheckListed, StoreListed, check_code, store_code, check_bits, longest_payload};
+
+use crate::unlisted::Unlisted;
+use std::fmt;
 
 // The outer checks, by their codes.
 #[derive(Clone, Copy, PartialEq, Eq, Debug)]
@@ -18,19 +21,6 @@ pub enum CheckCode {
 }
 
 impl CheckCode {
-    pub fn listed(code: u8) -> Option<CheckCode>
-        ensures { result ≡ check_of code }
-    {
-        match code {
-            0 => Some(CheckCode::None),
-            6 => Some(CheckCode::Trailing6),
-            11 => Some(CheckCode::Trailing11),
-            4 => Some(CheckCode::Spread4),
-            24 => Some(CheckCode::Spread24),
-            _ => None,
-        }
-    }
-
     // The number of check bits.
     pub fn bits(self) -> u8
         ensures { result ≡ check_bits self }
@@ -56,6 +46,44 @@ impl CheckCode {
     }
 }
 
+impl TryFrom<u8> for CheckCode {
+    type Error = Unlisted;
+
+    ghost try_from_gives = { CheckListed };
+
+    fn try_from(code: u8) -> Result<CheckCode, Unlisted> {
+        match code {
+            0 => Ok(CheckCode::None),
+            6 => Ok(CheckCode::Trailing6),
+            11 => Ok(CheckCode::Trailing11),
+            4 => Ok(CheckCode::Spread4),
+            24 => Ok(CheckCode::Spread24),
+            _ => Err(Unlisted(code)),
+        }
+    }
+}
+
+// The code of a check is the number of its bits.
+impl From<CheckCode> for u8 {
+    ghost from_gives = { λ check code. code ≡ check_code check };
+
+    fn from(check: CheckCode) -> u8 {
+        check.bits()
+    }
+}
+
+impl fmt::Display for CheckCode {
+    fn fmt<W: fmt::Write>(&self, f: &mut fmt::Formatter<W>) -> fmt::Result {
+        f.write_str(match self {
+            CheckCode::None => "none",
+            CheckCode::Trailing6 => "trailing, 6 bits",
+            CheckCode::Trailing11 => "trailing, 11 bits",
+            CheckCode::Spread4 => "spread, 4 bits",
+            CheckCode::Spread24 => "spread, 24 bits",
+        })
+    }
+}
+
 // The candidate stores, by their codes.
 #[derive(Clone, Copy, PartialEq, Eq, Debug)]
 pub enum StoreCode {
@@ -65,14 +93,36 @@ pub enum StoreCode {
     Heap,
 }
 
-impl StoreCode {
-    pub fn listed(code: u8) -> Option<StoreCode>
-        ensures { result ≡ store_of code }
-    {
+impl TryFrom<u8> for StoreCode {
+    type Error = Unlisted;
+
+    ghost try_from_gives = { StoreListed };
+
+    fn try_from(code: u8) -> Result<StoreCode, Unlisted> {
         match code {
-            0 => Some(StoreCode::Table),
-            1 => Some(StoreCode::Heap),
-            _ => None,
+            0 => Ok(StoreCode::Table),
+            1 => Ok(StoreCode::Heap),
+            _ => Err(Unlisted(code)),
         }
+    }
+}
+
+impl From<StoreCode> for u8 {
+    ghost from_gives = { λ store code. code ≡ store_code store };
+
+    fn from(store: StoreCode) -> u8 {
+        match store {
+            StoreCode::Table => 0,
+            StoreCode::Heap => 1,
+        }
+    }
+}
+
+impl fmt::Display for StoreCode {
+    fn fmt<W: fmt::Write>(&self, f: &mut fmt::Formatter<W>) -> fmt::Result {
+        f.write_str(match self {
+            StoreCode::Table => "table",
+            StoreCode::Heap => "heap",
+        })
     }
 }

@@ -2,15 +2,11 @@
 ghost use Rattle.block.specs.Layout.{GrantedFilesAreLaidOut, LaidOutFilesAreGranted};
 
 // A file without a fault is three sound fields, one after the other, and nothing else.
-pub fn granted_files_are_laid_out() -> u8
+pub fn granted_files_are_laid_out()
     ensures { GrantedFilesAreLaidOut }
-{
-    0
-}
+{}
 
 // Three sound fields, one after the other, make a file without a fault.
-pub fn laid_out_files_are_granted() -> u8
+pub fn laid_out_files_are_granted()
     ensures { LaidOutFilesAreGranted }
-{
-    0
-}
+{}

@@ -8,6 +8,7 @@ mod laws;
 mod numbers;
 mod reader;
 mod receives;
+mod unlisted;
 
 pub use code::{CheckCode, StoreCode};
 pub use due::Due;
@@ -16,3 +17,4 @@ pub use laws::{granted_files_are_laid_out, laid_out_files_are_granted};
 pub use numbers::{PlanNumbers, SearchNumbers};
 pub use reader::{Block, Fields, examine, field_at};
 pub use receives::received;
+pub use unlisted::Unlisted;

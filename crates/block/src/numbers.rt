@@ -34,7 +34,7 @@ impl PlanNumbers {
         let &[n, a1, a0, e1, e0, t1, t0, parity, code] = body else {
             return None;
         };
-        let check = CheckCode::listed(code)?;
+        let check = CheckCode::try_from(code).ok()?;
         Some(PlanNumbers {
             n,
             payload: u16::from_be_bytes([a1, a0]),
@@ -72,7 +72,7 @@ impl SearchNumbers {
         let &[capacity, code, c1, c0, t3, t2, t1, t0, words] = body else {
             return None;
         };
-        let store = StoreCode::listed(code)?;
+        let store = StoreCode::try_from(code).ok()?;
         if words == 0 {
             return None;
         }

@@ -26,7 +26,7 @@ fn soft_count(words: &[&str]) -> Option<usize> {
 
 fn request_of(words: [&str; 6]) -> Option<Request> {
     let [check, n, payload, sent, low, parity] = words;
-    let check = CheckCode::listed(byte(check)?)?;
+    let check = CheckCode::try_from(byte(check)?).ok()?;
     Some(Request {
         n: byte(n)?,
         payload: short(payload)?,

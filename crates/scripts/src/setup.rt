@@ -67,7 +67,7 @@ impl Setup<'_> {
         let (store, rest) = line.strip_prefix("new ")?.split_once(' ')?;
         let store = store_of(store)?;
         let (check, rest) = first_part(rest);
-        let check = CheckCode::listed(byte(check)?)?;
+        let check = CheckCode::try_from(byte(check)?).ok()?;
         let used = match rest {
             Some(text) => Some(usage_of(text)?),
             None => None,

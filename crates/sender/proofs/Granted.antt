@@ -3,7 +3,7 @@ use Rattle.std.proofs.Common.{◌≡◌, ℕ, ◌+◌, ◌*◌, ◌/◌, ◌%◌
 use Rattle.std.proofs.lemmas.Bool.Decides.{nat_tests}
 use Rattle.block.proofs.LaidOut.{laid-out-files-are-granted}
 use Rattle.block.specs.Bytes.{wide}
-use Rattle.block.specs.Codes.{check_of, store_of}
+use Rattle.block.specs.Codes.{check_of, store_of, check_code, store_code}
 use Rattle.block.specs.Fields.{sound}
 use Rattle.block.specs.File.{file_fault}
 use Rattle.block.specs.declared.code.CheckCode.{CheckCode}
@@ -12,7 +12,7 @@ use Rattle.block.specs.declared.code.StoreCode.{StoreCode}
 use Rattle.block.specs.declared.code.StoreCode.TheVariants as store
 use Rattle.block.specs.declared.due.Due.TheVariants.{Values}
 use Rattle.block.specs.declared.numbers.PlanNumbers.{PlanNumbers}
-use Rattle.sender.specs.Images.{check_code, store_code, plan_body, search_body, values_body, image_of}
+use Rattle.sender.specs.Images.{plan_body, search_body, values_body, image_of}
 use Rattle.sender.proofs.Received.{value-bytes-length}
 use Rattle.sender.specs.declared.request.Request.{Request}
 

@@ -1,25 +1,11 @@
 -- The block file of a request and its sent bits, byte for byte. Assumes nothing.
 use Rattle.std.specs.Prelude.{ℕ, ◌/◌, ◌%◌, List, [], ◌∷◌, ◌++◌, length, vec_items}
-use Rattle.block.specs.declared.code.CheckCode.{CheckCode}
-use Rattle.block.specs.declared.code.CheckCode.TheVariants as check
-use Rattle.block.specs.declared.code.StoreCode.{StoreCode}
-use Rattle.block.specs.declared.code.StoreCode.TheVariants as store
+use Rattle.block.specs.Codes.{check_code, store_code}
 use Rattle.block.specs.declared.numbers.PlanNumbers.{PlanNumbers}
 use Rattle.block.specs.declared.numbers.SearchNumbers.{SearchNumbers}
 use Rattle.block.specs.Layout.{written}
 use Rattle.sender.specs.declared.request.Request.{Request}
 use Rattle.sender.specs.Arrivals.{arriving, value_bytes}
-
-abbrev pub check_code : CheckCode → ℕ
-check_code check.None = 0
-check_code check.Trailing6 = 6
-check_code check.Trailing11 = 11
-check_code check.Spread4 = 4
-check_code check.Spread24 = 24
-
-abbrev pub store_code : StoreCode → ℕ
-store_code store.Table = 0
-store_code store.Heap = 1
 
 -- n, A, E, t, p, check
 abbrev pub plan_body : PlanNumbers → List ℕ

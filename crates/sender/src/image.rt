@@ -1,33 +1,12 @@
 // The block file of a request: three fields, one after the other. Assumes nothing.
 ghost use Rattle.std.specs.Prelude.{◌≡◌, ◌<◌, ◌≤◌, ◌++◌, length, IfOk, OnOk};
 ghost use Rattle.block.specs.Layout.{written};
-ghost use Rattle.sender.specs.Images.{check_code, store_code, plan_body, search_body, image_of};
+ghost use Rattle.sender.specs.Images.{plan_body, search_body, image_of};
 
 use crate::arrival::values_body;
 use crate::request::Request;
-use block::{CheckCode, PlanNumbers, SearchNumbers, StoreCode};
+use block::{PlanNumbers, SearchNumbers};
 use std::alloc::{AllocError, Global};
-
-fn check_code(check: CheckCode) -> u8
-    ensures { result ≡ check_code check }
-{
-    match check {
-        CheckCode::None => 0,
-        CheckCode::Trailing6 => 6,
-        CheckCode::Trailing11 => 11,
-        CheckCode::Spread4 => 4,
-        CheckCode::Spread24 => 24,
-    }
-}
-
-fn store_code(store: StoreCode) -> u8
-    ensures { result ≡ store_code store }
-{
-    match store {
-        StoreCode::Table => 0,
-        StoreCode::Heap => 1,
-    }
-}
 
 fn plan_body(p: &PlanNumbers) -> [u8; 9]
     ensures { result ≡ plan_body p.now }
@@ -44,7 +23,7 @@ fn plan_body(p: &PlanNumbers) -> [u8; 9]
         t[0],
         t[1],
         p.parity,
-        check_code(p.check),
+        u8::from(p.check),
     ]
 }
 
@@ -55,7 +34,7 @@ fn search_body(s: &SearchNumbers) -> [u8; 9]
     let t = s.steps.to_be_bytes();
     [
         s.capacity,
-        store_code(s.store),
+        u8::from(s.store),
         c[0],
         c[1],
         t[0],
