@@ -1,4 +1,6 @@
 pub mod Bytes
+pub mod CheckLaws
+pub mod Checks
 pub mod Codes
 pub mod Fields
 pub mod File

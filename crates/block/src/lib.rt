@@ -1,6 +1,7 @@
 //! The block file: three fields, read one by one as parts of the input, or the first refusal.
 #![tactic(auto)]
 
+mod check;
 mod code;
 mod due;
 mod field;

@@ -1,6 +1,6 @@
 -- The encoder and clean words: every coded word is sent, every accepted word can be received clean, and finished payloads
 -- are received. Assumes the laws of a check that finishes, where a lemma says so.
-use Rattle.std.proofs.Common.{◌≡◌, ℕ, zero, suc, ◌+◌, ◌<◌, ◌≤◌, Bool, true, false, cond, not, ◌&&◌, eqb, ltb, leb, List, length, get_or, ℤ, pos, negsuc, Some, None, sym, refl, ap, ◌∙◌, subst, inl, inr, add-one, arith}
+use Rattle.std.proofs.Common.{◌≡◌, ℕ, zero, suc, ◌+◌, ◌<◌, ◌≤◌, Bool, true, false, cond, not, ◌&&◌, eqb, ltb, leb, List, length, get_or, ℤ, pos, negsuc, Some, None, sym, refl, ap, ◌∙◌, subst, inl, inr, arith}
 use Rattle.std.proofs.lemmas.List.{length-map}
 use Rattle.std.proofs.lemmas.Int.{ints}
 use Rattle.std.proofs.lemmas.Bool.{and_left, and_parts, and_right, cases_Bool, cond-true, eq-eqb, eqb-true, leb-true, not_from_true}
@@ -12,7 +12,7 @@ use Rattle.code.specs.Laying.{bad_byte, bits_of, fits_check, laid_at, laid_bit, 
 use Rattle.code.specs.Laws.{Clean, SpeaksFor}
 use Rattle.code.specs.Recovery.{value_at}
 use Rattle.code.specs.Sending.{bad_place, coded_at, is_shorten, sending_verdict, shortened_one}
-use Rattle.code.proofs.First.{first-start, first_more}
+use Rattle.code.proofs.First.{first_none}
 use Rattle.code.proofs.Recovered.{placed-sent}
 use Rattle.model.specs.Blocks.{Meaning}
 use Rattle.plan.specs.Plans.{log_length, block_length, check_bits, payload_bits, word_bits, sent_bits, kind_at, place_of, sent_at}
@@ -27,15 +27,11 @@ use Rattle.clean.proofs.Words.{information-whole}
 
 -- Sending
 
-first-none : (p : ℕ → Bool) (n : ℕ) → ((k : ℕ) → k < n → p k ≡ false) → first_below p n ≡ None
-first-none p zero h = first-start p
-first-none p (suc n) h = ap (first_below p) (sym (add-one n)) ∙ first_more p n (first-none p n (λ k l. h k (omega arith))) (h n (omega arith))
-
 pub coded-sent : CodedWordsSent
 coded-sent laid coded transforms =
     subst (λ (p : Plan). sending_verdict p (coded_at coded) (sent_bits p) ≡ None) (sym transforms.plan)
     (cond-true (eqb (sent_bits plan) (sent_bits plan)) (bad_place (first_below (shortened_one plan (coded_at coded)) (block_length plan))) (Some SentLength) (eq-eqb (sent_bits plan) (sent_bits plan) refl)
-    ∙ ap bad_place (first-none (shortened_one plan (coded_at coded)) (block_length plan) (λ i h. go i h plan.mode refl)))
+    ∙ ap bad_place (first_none (shortened_one plan (coded_at coded)) (block_length plan) (λ i h. go i h plan.mode refl)))
   where
     plan : Plan
     plan = plan_of laid

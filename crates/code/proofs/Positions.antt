@@ -1,15 +1,19 @@
 -- Laying, position by position: word bits on information positions, then the parity sums, and that the outcome is lawful.
 -- Assumes nothing; kinds are frozen beyond the block where a lemma says so.
-use Rattle.std.proofs.Common.{◌≡◌, ℕ, zero, suc, ◌+◌, ◌-◌, ◌%◌, ◌<◌, ◌≤◌, Bool, true, false, cond, ◌&&◌, eqb, ltb, List, get_or, sym, refl, ap, ◌∙◌, inl, inr, add-one, arith}
+use Rattle.std.proofs.Common.{◌≡◌, ℕ, zero, suc, ◌+◌, ◌-◌, ◌%◌, ◌<◌, ◌≤◌, Bool, true, false, cond, ◌&&◌, eqb, ltb, List, [], ◌∷◌, get_or, sym, refl, ap, ◌∙◌, inl, inr, add-one, arith}
+use Rattle.std.proofs.lemmas.List.Sums.{fold-append}
+use Rattle.std.specs.Bool.{xor}
+use Rattle.std.specs.List.{fold, range_with_len}
 use Rattle.std.proofs.lemmas.Bool.{cases_Bool, cases_eq, cases_lt, both_ways, lt-ltb, le-ltb}
 use Rattle.std.proofs.lemmas.Bool.Decides.{nat_tests}
-use Rattle.base.specs.Counts.{count_below}
+use Rattle.base.specs.Counts.{count_below, xor_below}
 use Rattle.base.proofs.Counts.{count-suc, count-zero, count_most}
 use Rattle.base.proofs.Transform.{xor-below-same, xor-below-none}
 use Rattle.bits.specs.Row.{set_bit}
 use Rattle.plan.specs.Kinds.{is_information, is_parity}
 use Rattle.plan.specs.declared.kind.Kind.{Kind}
 use Rattle.plan.specs.declared.kind.Kind.TheVariants.{Frozen, Information, Parity}
+use Rattle.code.proofs.First.{range_more}
 use Rattle.code.specs.Laying.{word_bit_at, bit_of_kind, laid_bit}
 use Rattle.code.specs.Lawful.{parity_sum, FrozenZero, ParitySummed}
 
@@ -99,6 +103,14 @@ module _ (kinds : ℕ → Kind) (word : List Bool) where
       ]
 
 -- parity sums
+
+-- a sum modulo 2 over a range, bit by bit
+pub xor_folded : (u : ℕ → Bool) (n : ℕ) → fold (λ sum j. xor sum (u j)) false (range_with_len 0 n) ≡ xor_below u n
+unfolding xor_below
+xor_folded u zero = refl
+xor_folded u (suc n) =
+    ap (fold (λ sum j. xor sum (u j)) false) (range_more 0 n n (omega arith)) ∙ fold-append (λ sum j. xor sum (u j)) false (range_with_len 0 n) (n ∷ [])
+    ∙ ap (λ (sum : Bool). xor sum (u n)) (xor_folded u n)
 
 -- a sum reads information positions alone
 pub parity-same : (kinds : ℕ → Kind) (u v : ℕ → Bool) (i : ℕ) → ((j : ℕ) → is_information (kinds j) ≡ true → u j ≡ v j)

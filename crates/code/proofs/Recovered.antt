@@ -1,5 +1,5 @@
 -- From sums over the sent bits to the soft values of a plan. Assumes nothing.
-use Rattle.std.proofs.Common.{◌≡◌, ℕ, ◌+◌, ◌<◌, Bool, true, false, cond, ◌&&◌, eqb, List, length, ℤ, pos, ◌+ℤ◌, Some, None, sym, ap, ◌∙◌, subst, inl, inr, arith, lit<, w16, w32, SFits, to_z, of_z}
+use Rattle.std.proofs.Common.{◌≡◌, ℕ, ◌+◌, ◌<◌, Bool, true, false, cond, ◌&&◌, eqb, List, length, ℤ, pos, ◌+ℤ◌, Some, None, sym, ap, ◌∙◌, subst, inl, inr, arith, lit<, w32, SFits, to_z, of_z}
 use lib.IntN.{+ℤ_idl, +ℤ_idr}
 use Rattle.std.proofs.lemmas.Int.{ints, to_z-of_z}
 use Rattle.std.proofs.lemmas.Bool.{and_from, cases_Bool, cond-true, eq-eqb, lt-ltb}
@@ -59,21 +59,21 @@ verdict-none plan values room sent block none =
     ∙ ap bad_value none
 
 -- one turn of the addition: the code's sum, through the bits of its parts, fits and is the sum
-pub record Turn (llr value : ℤ) : Type 0 where
-  pub fits : SFits w32 (to_z w32 (of_z w32 llr) +ℤ to_z w32 (of_z w32 (to_z w16 (of_z w16 value))))
-  pub sum : to_z w32 (of_z w32 (to_z w32 (of_z w32 llr) +ℤ to_z w32 (of_z w32 (to_z w16 (of_z w16 value))))) ≡ llr +ℤ value
+pub record Turn (llr value read : ℤ) : Type 0 where
+  pub fits : SFits w32 (to_z w32 (of_z w32 llr) +ℤ to_z w32 (of_z w32 read))
+  pub sum : to_z w32 (of_z w32 (to_z w32 (of_z w32 llr) +ℤ to_z w32 (of_z w32 read))) ≡ llr +ℤ value
 
 pub turn : (plan : Plan) (values start llrs : List ℤ) (k p : ℕ) → Added (place_of plan) (value_at values) start k llrs → p < length start
     → ((i : ℕ) → i < length start → value_at start i ≡ cond (sent_at plan i) (pos 0) (unsent_soft (mode_in plan)))
     → first_below (λ j. beyond (value_at values j)) (length values) ≡ None → k < length values → length values ≡ sent_bits plan
-    → SFits w32 (value_at llrs p) → SFits w16 (value_at values k) → Turn (value_at llrs p) (value_at values k)
-turn plan values start llrs k p added inside begun none l sent fl fv =
+    → SFits w32 (value_at llrs p) → (read : ℤ) → read ≡ value_at values k → Turn (value_at llrs p) (value_at values k) read
+turn plan values start llrs k p added inside begun none l sent fl read is =
     let few = plan.aired in
     let first : Spans 1048576 (value_at start p) = subst (Spans 1048576) (sym (begun p inside)) (start-spans (sent_at plan p) (mode_in plan)) in
     let small : (j : ℕ) → j < k + 1 → Spans 4095 (value_at values j) =
     λ j m. within-spans (value_at values j) (first_absent (λ j. beyond (value_at values j)) (length values) none j (omega arith)) in
     let fw : SFits w32 (value_at values k) = spans-fits (value_at values k) 4095 (small k (omega arith)) (lit< tt) in
-    let read = sum-read (value_at llrs p) (value_at values k) fl fv fw in
+    let sum = sum-read (value_at llrs p) (value_at values k) read is fl fw in
     let whole : SFits w32 (value_at llrs p +ℤ value_at values k) = added-fits (place_of plan) (value_at values) start k p llrs added inside first small (omega arith) in
-    let fits = subst (SFits w32) (sym read) whole in
-    record { fits = fits; sum = to_z-of_z w32 _ fits ∙ read }
+    let fits = subst (SFits w32) (sym sum) whole in
+    record { fits = fits; sum = to_z-of_z w32 _ fits ∙ sum }

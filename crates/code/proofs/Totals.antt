@@ -1,5 +1,5 @@
 -- Sums of received values: their bounds, and one more value added onto its place. Assumes nothing.
-use Rattle.std.proofs.Common.{◌≡◌, ℕ, zero, suc, ◌+◌, ◌*◌, ◌^◌, ◌<◌, ◌≤◌, Bool, true, false, cond, eqb, List, length, set, ℤ, pos, negsuc, ◌+ℤ◌, ◌≤ℤ◌, sym, refl, ap, ◌∙◌, subst, inl, inr, add-one, arith, lit<, w16, w32, SFits, to_z, of_z}
+use Rattle.std.proofs.Common.{◌≡◌, ℕ, zero, suc, ◌+◌, ◌*◌, ◌^◌, ◌<◌, ◌≤◌, Bool, true, false, cond, eqb, List, length, set, ℤ, pos, negsuc, ◌+ℤ◌, ◌≤ℤ◌, sym, refl, ap, ◌∙◌, subst, inl, inr, add-one, arith, lit<, w32, SFits, to_z, of_z}
 use lib.IntN.{+ℤ_idr, +ℤ_assoc}
 use Rattle.std.proofs.lemmas.List.{get_or-set_same, get_or-set_other}
 use Rattle.std.proofs.lemmas.Int.{ints, to_z-of_z}
@@ -100,9 +100,8 @@ module _ (places : ℕ → ℕ) (values : ℕ → ℤ) (start : List ℤ) where
       (record { low = omega (arith, ints); high = omega (arith, ints) }) (lit< tt))
 
 -- a sum as the code has it, through the bits of its parts
-pub sum-read : (a v : ℤ) → SFits w32 a → SFits w16 v → SFits w32 v
-    → to_z w32 (of_z w32 a) +ℤ to_z w32 (of_z w32 (to_z w16 (of_z w16 v))) ≡ a +ℤ v
-sum-read a v fa fv fw =
-    ap (λ (z : ℤ). z +ℤ to_z w32 (of_z w32 (to_z w16 (of_z w16 v)))) (to_z-of_z w32 a fa)
-    ∙ ap (λ (z : ℤ). a +ℤ to_z w32 (of_z w32 z)) (to_z-of_z w16 v fv)
-    ∙ ap (λ (z : ℤ). a +ℤ z) (to_z-of_z w32 v fw)
+pub sum-read : (a v read : ℤ) → read ≡ v → SFits w32 a → SFits w32 v → to_z w32 (of_z w32 a) +ℤ to_z w32 (of_z w32 read) ≡ a +ℤ v
+sum-read a v read is fa fv =
+    ap (λ (z : ℤ). z +ℤ to_z w32 (of_z w32 read)) (to_z-of_z w32 a fa)
+    ∙ ap (λ (z : ℤ). a +ℤ to_z w32 (of_z w32 z)) is
+    ∙ ap (λ (z : ℤ). a +ℤ z) (to_z-of_z w32 v fv)

@@ -2,22 +2,16 @@
 ghost use Rattle.code.specs.Laws.{LaidLawful, CleanSpeaks, SoftBounded};
 
 // Every laid word obeys its plan.
-pub fn laid_lawful() -> u8
+pub fn laid_lawful()
     ensures { LaidLawful }
-{
-    0
-}
+{}
 
 // What is recovered from clean values speaks for the sent code word.
-pub fn clean_speaks() -> u8
+pub fn clean_speaks()
     ensures { CleanSpeaks }
-{
-    0
-}
+{}
 
 // What is recovered from values within their limits is a soft value within its own.
-pub fn soft_bounded() -> u8
+pub fn soft_bounded()
     ensures { SoftBounded }
-{
-    0
-}
+{}

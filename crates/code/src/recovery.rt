@@ -16,19 +16,14 @@ const SURE: i32 = 1_048_576;
 fn is_beyond(value: i16) -> bool
     ensures { result ≡ beyond value }
 {
-    value < -MOST || value > MOST
+    !(-MOST..=MOST).contains(&value)
 }
 
 // The index of the first value beyond its limits.
 fn first_beyond(values: &[i16]) -> Option<usize>
     ensures { result ≡ first_below (λ k. beyond (value_at values.now k)) (length values.now) }
 {
-    for (i, value) in values.iter().enumerate() {
-        if is_beyond(*value) {
-            return Some(i);
-        }
-    }
-    None
+    values.iter().position(|value| is_beyond(*value))
 }
 
 // What a place holds before any value is added.
@@ -47,8 +42,8 @@ fn start(plan: &Plan, i: usize) -> i32
 fn clear(plan: &Plan, llrs: &mut [i32])
     ensures { (i : ℕ) → i < length llrs.old → value_at llrs.new i ≡ (if sent_at plan.now i then pos 0 else unsent_soft (mode_in plan.now)) }
 {
-    for i in 0..llrs.len() {
-        llrs[i] = start(plan, i);
+    for (i, llr) in llrs.iter_mut().enumerate() {
+        *llr = start(plan, i);
     }
 }
 
@@ -60,8 +55,8 @@ fn add_values(plan: &Plan, values: &[i16], llrs: &mut [i32])
     requires start { (i : ℕ) → i < length llrs.old → value_at llrs.old i ≡ (if sent_at plan.now i then pos 0 else unsent_soft (mode_in plan.now)) }
     ensures { (i : ℕ) → i < length llrs.old → value_at llrs.new i ≡ value_at llrs.old i +ℤ total_below (share_of plan.now (value_at values.now) i) (length values.now) }
 {
-    for k in 0..values.len() {
-        llrs[plan.place(k)] += values[k] as i32;
+    for (k, value) in values.iter().enumerate() {
+        llrs[plan.place(k)] += i32::from(*value);
     }
 }
 

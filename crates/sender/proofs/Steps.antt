@@ -6,6 +6,7 @@ use Rattle.std.proofs.lemmas.Bool.Decides.{nat_tests}
 use Rattle.std.specs.List.{range_with_len}
 use Rattle.base.proofs.Transform.{code-bit-same}
 use Rattle.base.specs.declared.refusal.Refusal.{Refusal}
+use Rattle.block.specs.Checks.{finished_by}
 use Rattle.block.specs.Codes.{check_bits, longest_payload}
 use Rattle.block.specs.declared.code.CheckCode.{CheckCode}
 use Rattle.block.specs.declared.code.CheckCode.TheVariants as check
@@ -19,7 +20,6 @@ use Rattle.plan.proofs.Sent.{plan-bounded, place_inside}
 use Rattle.plan.specs.Order.{sent_place}
 use Rattle.plan.specs.Plans.{log_length, block_length, sent_bits, place_of}
 use Rattle.plan.specs.declared.plan.Plan.{Plan}
-use Rattle.sender.specs.Checks.{finished_by}
 use Rattle.sender.specs.Sends.{laid_of, payload_verdict, PlanIs, LaidIs, CodeIs, Sent, SentFor, RefusedWith, FailsWith}
 use Rattle.sender.specs.declared.failure.Failure.{Failure}
 use Rattle.sender.specs.declared.failure.Failure.TheVariants.{Refused, Memory}

@@ -1,5 +1,4 @@
 pub mod Arrivals
-pub mod Checks
 pub mod Images
 pub mod Requests
 pub mod Sends

@@ -4,6 +4,7 @@ use Rattle.std.specs.List.{range_with_len}
 use Rattle.std.specs.Global.{Vec}
 use Rattle.base.specs.Transform.{code_bit}
 use Rattle.base.specs.declared.refusal.Refusal.{Refusal}
+use Rattle.block.specs.Checks.{finished_by}
 use Rattle.block.specs.Codes.{check_bits, longest_payload}
 use Rattle.block.specs.Fields.{request_of}
 use Rattle.code.specs.Laying.{bits_of, laid_at, laid_bit, laying_verdict, plan_of}
@@ -13,7 +14,6 @@ use Rattle.code.specs.declared.laid.Laid.{Laid}
 use Rattle.plan.specs.Plans.{Planned, kind_at, log_length, block_length, sent_bits, place_of}
 use Rattle.plan.specs.Requests.{verdict}
 use Rattle.plan.specs.declared.plan.Plan.{Plan}
-use Rattle.sender.specs.Checks.{finished_by}
 use Rattle.sender.specs.declared.failure.Failure.{Failure}
 use Rattle.sender.specs.declared.failure.Failure.TheVariants.{Refused, Memory}
 use Rattle.sender.specs.declared.request.Request.{Request}

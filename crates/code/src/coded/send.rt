@@ -14,10 +14,7 @@ use plan::{Mode, Plan};
 fn shortens(plan: &Plan) -> bool
     ensures { result ≡ is_shorten (mode_in plan.now) }
 {
-    match plan.mode() {
-        Mode::Shorten => true,
-        Mode::Repeat | Mode::Puncture => false,
-    }
+    plan.mode() == Mode::Shorten
 }
 
 fn is_shortened_one(plan: &Plan, bits: &Row, i: usize) -> bool
@@ -30,12 +27,7 @@ fn is_shortened_one(plan: &Plan, bits: &Row, i: usize) -> bool
 fn first_shortened_one(plan: &Plan, bits: &Row) -> Option<usize>
     ensures { result ≡ first_below (shortened_one plan.now (row_bit bits.now)) (block_length plan.now) }
 {
-    for i in 0..plan.length() {
-        if is_shortened_one(plan, bits, i) {
-            return Some(i);
-        }
-    }
-    None
+    (0..plan.length()).find(|i| is_shortened_one(plan, bits, *i))
 }
 
 // Writes the sent bits of a code word.
@@ -43,8 +35,8 @@ fn write_sent(plan: &Plan, bits: &Row, out: &mut [u8])
     requires whole { length out.old ≡ sent_bits plan.now }
     ensures { SentBits plan.now (row_bit bits.now) out.new }
 {
-    for k in 0..out.len() {
-        out[k] = bits.get(plan.place(k)) as u8;
+    for (k, byte) in out.iter_mut().enumerate() {
+        *byte = u8::from(bits.get(plan.place(k)));
     }
 }
 

@@ -7,12 +7,7 @@ ghost use Rattle.code.specs.Laying.{bits_of};
 pub fn first_above_one(bytes: &[u8]) -> Option<usize>
     ensures { result ≡ first_below (λ k. nat_lt 1 (slice_index bytes.now k)) (length bytes.now) }
 {
-    for (i, byte) in bytes.iter().enumerate() {
-        if *byte > 1 {
-            return Some(i);
-        }
-    }
-    None
+    bytes.iter().position(|byte| *byte > 1)
 }
 
 // Reads each byte as a bit.
@@ -20,7 +15,7 @@ pub fn read_bits(bytes: &[u8], bits: &mut [bool])
     requires whole { length bits.old ≡ length bytes.now }
     ensures { bits.new ≡ bits_of bytes.now }
 {
-    for i in 0..bytes.len() {
-        bits[i] = bytes[i] == 1;
+    for (i, byte) in bytes.iter().enumerate() {
+        bits[i] = *byte == 1;
     }
 }

@@ -12,19 +12,13 @@ use plan::{Kind, Plan};
 fn is_information(plan: &Plan, i: usize) -> bool
     ensures { result ≡ is_information (kind_at plan.now i) }
 {
-    match plan.kind(i) {
-        Kind::Information => true,
-        Kind::Frozen | Kind::Parity => false,
-    }
+    plan.kind(i) == Kind::Information
 }
 
 fn is_parity(plan: &Plan, i: usize) -> bool
     ensures { result ≡ is_parity (kind_at plan.now i) }
 {
-    match plan.kind(i) {
-        Kind::Parity => true,
-        Kind::Frozen | Kind::Information => false,
-    }
+    plan.kind(i) == Kind::Parity
 }
 
 // The row with the word's bits on the plan's information positions.
@@ -54,11 +48,7 @@ fn summand(plan: &Plan, row: &Row, i: usize, j: usize) -> bool
 pub fn parity_sum(plan: &Plan, row: &Row, i: usize) -> bool
     ensures { result ≡ parity_sum (kind_at plan.now) (row_bit row.now) i }
 {
-    let mut sum = false;
-    for j in 0..i {
-        sum ^= summand(plan, row, i, j);
-    }
-    sum
+    (0..i).fold(false, |sum, j| sum ^ summand(plan, row, i, j))
 }
 
 // Sets every parity position of the plan to its sum.

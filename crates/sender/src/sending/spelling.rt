@@ -1,16 +1,15 @@
 // The steps of sending, spelled out as bits. Assumes nothing.
-ghost use Rattle.std.specs.Prelude.{◌≡◌, ◌≤◌, map, length, IfOk, OnOk, OnErr, is_ok};
+ghost use Rattle.std.specs.Prelude.{◌≡◌, ◌≤◌, map, length, IfOk};
 ghost use Rattle.std.specs.List.{range_with_len};
-ghost use Rattle.block.specs.Codes.{check_bits, longest_payload};
+ghost use Rattle.block.specs.Checks.{finished_by};
+ghost use Rattle.block.specs.Codes.{longest_payload};
 ghost use Rattle.code.specs.Laying.{bits_of, laid_at};
-ghost use Rattle.crc.specs.Lengths.{fitting};
-ghost use Rattle.sender.specs.Checks.{finished_by};
 ghost use Rattle.sender.specs.Sends.{SentFor};
 
 use crate::failure::Failure;
 use block::CheckCode;
 use code::{Coded, Laid};
-use outer::{Finish, Misfit, NoCheck, Spread, Trailing};
+use outer::{Finish, Judge};
 use plan::Plan;
 use std::alloc::{AllocError, Global};
 
@@ -30,21 +29,6 @@ fn bits_of(heap: Global, bytes: &[u8]) -> Result<Vec<bool>, AllocError>
     Ok(bits)
 }
 
-// Finishes a payload under the check that a code names.
-fn finish_under(check: CheckCode, payload: &[bool], word: &mut [bool]) -> Result<(), Misfit>
-    ensures result { is_ok result ≡ fitting (longest_payload check) (check_bits check) (length payload.now) (length word.old) }
-    ensures ok { OnOk result (word.new ≡ finished_by check payload.now) }
-    ensures err { OnErr result (word.new ≡ word.old) }
-{
-    match check {
-        CheckCode::None => NoCheck.finish(payload, word),
-        CheckCode::Trailing6 => Trailing::Six.finish(payload, word),
-        CheckCode::Trailing11 => Trailing::Eleven.finish(payload, word),
-        CheckCode::Spread4 => Spread::Four.finish(payload, word),
-        CheckCode::Spread24 => Spread::TwentyFour.finish(payload, word),
-    }
-}
-
 // The finished word of a payload that the check takes.
 pub fn finished_word(
     heap: Global,
@@ -56,8 +40,8 @@ pub fn finished_word(
 {
     let bits = bits_of(heap, payload)?;
     let mut word = [false; LONGEST_WORD];
-    let word = &mut word[0..payload.len() + usize::from(check.bits())];
-    let _ = finish_under(check, bits.as_slice(), word);
+    let word = &mut word[0..payload.len() + check.check_bits()];
+    let _ = check.finish(bits.as_slice(), word);
     Ok(Vec::from_slice(heap, word)?)
 }
 

@@ -12,12 +12,12 @@ loop-k-init c = added_none (place_of c.args.plan.now) (value_at c.args.values.no
 pub overflow_add-llrs : goal.overflow_add-llrs
 overflow_add-llrs c =
     (turn c.args.plan.now c.args.values.now c.args.llrs.now c.loop-k.llrs c.loop-k.k c.place.result c.loop-k.invariant
-    (omega arith) c.requires.start c.requires.within c.loop-k-test.true c.requires.sent (search rules) (search rules)).fits
+    (omega arith) c.requires.start c.requires.within c.loop-k-test.true c.requires.sent (search rules) c.from.result (search rules)).fits
 
 pub loop-k-preserved : goal.loop-k-preserved
 loop-k-preserved c =
     let added = turn c.args.plan.now c.args.values.now c.args.llrs.now c.loop-k.llrs c.loop-k.k c.place.result c.loop-k.invariant
-    (omega arith) c.requires.start c.requires.within c.loop-k-test.true c.requires.sent (search rules) (search rules) in
+    (omega arith) c.requires.start c.requires.within c.loop-k-test.true c.requires.sent (search rules) c.from.result (search rules) in
     added_more (place_of c.args.plan.now) (value_at c.args.values.now) c.args.llrs.now c.loop-k.k c.place.result _ c.loop-k.llrs
     (omega arith) c.place.ensures.result (omega arith) added.sum c.loop-k.invariant
 

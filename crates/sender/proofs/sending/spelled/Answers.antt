@@ -2,9 +2,9 @@
 use Rattle.std.proofs.Common.{ℕ, List, map, ap, ◌∙◌}
 use Rattle.std.proofs.lemmas.Result.{err_from_is_err_and}
 use Rattle.std.specs.List.{range_with_len}
+use Rattle.block.specs.Checks.{finished_by}
 use Rattle.code.specs.Laying.{bits_of, laid_at}
 use Rattle.plan.specs.Plans.{block_length}
-use Rattle.sender.specs.Checks.{finished_by}
 use Rattle.sender.proofs.Steps.{laid-list, code_is, sent_is, code-fails}
 use Rattle.sender.proofs.sending.spelled.Goals as goal
 

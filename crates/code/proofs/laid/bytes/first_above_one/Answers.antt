@@ -1,15 +1,10 @@
--- No byte before the index is above 1. Assumes nothing.
-use Rattle.std.proofs.Common.{ltb, get_or, sym, rules}
-use Rattle.code.proofs.First.{first-start, first_more, first_found}
+use Rattle.std.proofs.Common.{ltb, ◌∙◌, rules, tests}
+use Rattle.std.proofs.lemmas.Iterator.{YieldsList-from_slice}
+use Rattle.std.proofs.lemmas.Iterator.Search.{position_from_yields_List}
+use Rattle.code.proofs.First.{first_position}
 use Rattle.code.proofs.laid.bytes.first_above_one.Goals as goal
 
-pub loop-i-init : goal.loop-i-init
-loop-i-init c = first-start (λ k. ltb 1 (get_or c.args.bytes.now k 0))
-
-pub returns-then-byte-gt1 : goal.returns-then-byte-gt1
-returns-then-byte-gt1 c =
-    sym (first_found (λ k. ltb 1 (get_or c.args.bytes.now k 0)) c.loop-i.i _ c.loop-i.invariant (search rules) (search rules))
-
-pub loop-i-preserved : goal.loop-i-preserved
-loop-i-preserved c =
-    first_more (λ k. ltb 1 (get_or c.args.bytes.now k 0)) c.loop-i.i c.loop-i.invariant (search rules)
+pub returns : goal.returns
+returns c =
+    position_from_yields_List (λ b. ltb 1 b) _ _ _ c.position.ensures.ran (YieldsList-from_slice c.args.bytes.now cc) (λ x b q k. search (rules, tests))
+    ∙ first_position (λ b. ltb 1 b) c.args.bytes.now 0

@@ -1,16 +1,17 @@
--- Every turn adds one position. Assumes nothing.
 use mathlib.Core.Bool.{xor}
-use Rattle.std.proofs.Common.{refl, add-one}
-use Rattle.base.specs.Counts.{xor_below}
+use Rattle.std.proofs.Common.{◌%◌, false, ◌&&◌, eqb, refl, ◌∙◌, arith, rules}
+use Rattle.std.proofs.lemmas.Iterator.{YieldsList-from_range}
+use Rattle.std.proofs.lemmas.Iterator.Consumers.{fold_from_yields_List}
+use Rattle.bits.specs.Row.{row_bit}
+use Rattle.plan.specs.Kinds.{is_information}
+use Rattle.plan.specs.Plans.{kind_at}
+use Rattle.code.proofs.Positions.{xor_folded}
 use Rattle.code.proofs.laid.positions.parity_sum.Goals as goal
 
-pub loop-j-init : goal.loop-j-init
-unfolding xor_below
-loop-j-init c = refl
-
-pub loop-j-preserved : goal.loop-j-preserved
-unfolding xor_below xor
-loop-j-preserved c =
-    let was = c.loop-j.invariant in
-    let bit = c.summand-sum.ensures in
-    rw (add-one, xor_below, ← bit, ← was)
+pub returns : goal.returns
+unfolding xor
+returns c =
+    let i = c.args.i in
+    fold_from_yields_List _ (λ sum j. xor sum (is_information (kind_at c.args.plan.now j) && (eqb (j % 5) (i % 5) && row_bit c.args.row.now j))) false _
+    c.fold.ensures.ran (YieldsList-from_range 0 i i refl (omega arith)) (λ a x b q k. search rules)
+    ∙ xor_folded (λ j. is_information (kind_at c.args.plan.now j) && (eqb (j % 5) (i % 5) && row_bit c.args.row.now j)) i
