@@ -3,6 +3,7 @@
 #![tactic(auto)]
 
 ghost use Rattle.clean.specs.Laws.{ShortenedPlacesCarryZero, CodedWordsSent, WordsCanBeReceived, ReceivedWordStandsApart, AnyCleanWordFirst, ReceivedWordFirst, ReceivedPayloadFirst, FinishedWordsReceived, EncodedPayloadsReceived};
+ghost use Rattle.model.specs.Blocks.{meaning_of};
 ghost use Rattle.search.specs.Stores.{Store, StoreLaws, CapacityLaws};
 
 use outer::Finish;
@@ -44,12 +45,12 @@ pub fn received_payload_first<S>()
 
 // A finished payload is such a word, and is read back from its path.
 pub fn finished_words_received<C: Finish>()
-    ensures { (c : C) → FinishedWordsReceived (record { accepted = C.Judge.accepted c; hopeless = C.Judge.hopeless c; carried = C.Judge.carried c }) (C.Judge.bits c) (C.Judge.longest c) (C.Finish.finished c) }
+    ensures { (c : C) → FinishedWordsReceived (meaning_of C.Judge c) (C.Judge.bits c) (C.Judge.longest c) (C.Finish.finished c) }
 {}
 
 // So is one that the encoder laid and transformed, and whose soft values were recovered.
 pub fn encoded_payloads_received<C: Finish>()
-    ensures { (c : C) → EncodedPayloadsReceived (record { accepted = C.Judge.accepted c; hopeless = C.Judge.hopeless c; carried = C.Judge.carried c }) (C.Judge.bits c) (C.Judge.longest c) (C.Finish.finished c) }
+    ensures { (c : C) → EncodedPayloadsReceived (meaning_of C.Judge c) (C.Judge.bits c) (C.Judge.longest c) (C.Finish.finished c) }
 {
     finished_words_received::<C>();
 }
