@@ -3,70 +3,54 @@
 #![tactic(auto)]
 
 ghost use Rattle.clean.specs.Laws.{ShortenedPlacesCarryZero, CodedWordsSent, WordsCanBeReceived, ReceivedWordStandsApart, AnyCleanWordFirst, ReceivedWordFirst, ReceivedPayloadFirst, FinishedWordsReceived, EncodedPayloadsReceived};
+ghost use Rattle.model.specs.Blocks.{meaning_of};
 ghost use Rattle.search.specs.Stores.{Store, StoreLaws, CapacityLaws};
 
 use outer::Finish;
 
 // Bits that are 0 at frozen positions code to 0 at every shortened place.
-pub fn shortened_places_carry_zero() -> u8
+pub fn shortened_places_carry_zero()
     ensures { ShortenedPlacesCarryZero }
-{
-    0
-}
+{}
 
 // So a coded word is never refused but for the length of the buffer.
-pub fn coded_words_sent() -> u8
+pub fn coded_words_sent()
     ensures { CodedWordsSent }
-{
-    0
-}
+{}
 
 // What is said of words received clean is said of every accepted word, with some values.
-pub fn words_can_be_received() -> u8
+pub fn words_can_be_received()
     ensures { WordsCanBeReceived }
-{
-    0
-}
+{}
 
 // The path of a word received clean is admissible and costs nothing, and each bit that leaves it costs something.
-pub fn received_word_stands_apart() -> u8
+pub fn received_word_stands_apart()
     ensures { ReceivedWordStandsApart }
-{
-    0
-}
+{}
 
 // After a load advances pause until their budgets come to N + 1; then they show the word that costs nothing.
-pub fn clean_word_first<S>() -> u8
+pub fn clean_word_first<S>()
     ensures { (m : Store S) → StoreLaws m → CapacityLaws m → AnyCleanWordFirst m }
-{
-    0
-}
+{}
 
 // So it is of the word that was received clean.
-pub fn received_word_first<S>() -> u8
+pub fn received_word_first<S>()
     ensures { (m : Store S) → StoreLaws m → CapacityLaws m → ReceivedWordFirst m }
-{
-    0
-}
+{}
 
 // The payload that it carries is then read.
-pub fn received_payload_first<S>() -> u8
+pub fn received_payload_first<S>()
     ensures { (m : Store S) → StoreLaws m → CapacityLaws m → ReceivedPayloadFirst m }
-{
-    0
-}
+{}
 
 // A finished payload is such a word, and is read back from its path.
-pub fn finished_words_received<C: Finish>() -> u8
-    ensures { (c : C) → FinishedWordsReceived (record { accepted = C.Judge.accepted c; hopeless = C.Judge.hopeless c; carried = C.Judge.carried c }) (C.Judge.bits c) (C.Judge.longest c) (C.Finish.finished c) }
-{
-    0
-}
+pub fn finished_words_received<C: Finish>()
+    ensures { (c : C) → FinishedWordsReceived (meaning_of C.Judge c) (C.Judge.bits c) (C.Judge.longest c) (C.Finish.finished c) }
+{}
 
 // So is one that the encoder laid and transformed, and whose soft values were recovered.
-pub fn encoded_payloads_received<C: Finish>() -> u8
-    ensures { (c : C) → EncodedPayloadsReceived (record { accepted = C.Judge.accepted c; hopeless = C.Judge.hopeless c; carried = C.Judge.carried c }) (C.Judge.bits c) (C.Judge.longest c) (C.Finish.finished c) }
+pub fn encoded_payloads_received<C: Finish>()
+    ensures { (c : C) → EncodedPayloadsReceived (meaning_of C.Judge c) (C.Judge.bits c) (C.Judge.longest c) (C.Finish.finished c) }
 {
-    let _ = finished_words_received::<C>();
-    0
+    finished_words_received::<C>();
 }

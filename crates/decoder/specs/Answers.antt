@@ -5,12 +5,13 @@ use Rattle.base.specs.declared.refusal.Refusal.{Refusal}
 use Rattle.base.specs.declared.refusal.Refusal.TheVariants as refusal
 use Rattle.code.specs.Sending.{byte_of}
 use Rattle.cost.specs.Limits.{first_beyond}
+use Rattle.outer.specs.declared.check.Judge as judge
 use Rattle.plan.specs.declared.plan.Plan.{Plan}
 use Rattle.plan.specs.Plans.{block_length, payload_bits, check_bits}
 use Rattle.search.specs.Stores.{Contents, put_into, emptied_to}
 use Rattle.search.specs.Search.{between, root, load_refusal, shown_payload}
 use Rattle.search.specs.Calls as search
-use Rattle.model.specs.Blocks.{Meaning, block_of}
+use Rattle.model.specs.Blocks.{Meaning, meaning_of, block_of}
 use Rattle.decoder.specs.Limits.{limits_allowed}
 use Rattle.decoder.specs.Phases.{first_of, phase_refusal}
 use Rattle.decoder.specs.Blocks.{plan_in, llr_in}
@@ -25,10 +26,10 @@ use Rattle.decoder.specs.declared.phase.Phase.{Phase}
 abbrev pub fits_check : (bits longest : ℕ) → Plan → Bool
 fits_check bits longest plan = check_bits plan == bits && nat_le (payload_bits plan) longest
 
-abbrev pub request_of : (bits longest : ℕ) → Meaning → Plan → List ℤ → Limits → search.Request
-request_of bits longest check plan llrs limits = record {
-  block = block_of plan (λ k. slice_index_or llrs k (pos 0)) check;
-  fits = fits_check bits longest plan && (length llrs == block_length plan);
+abbrev pub request_of : {C : Type 0} → judge.Ghosts C → C → Plan → List ℤ → Limits → search.Request
+request_of judge check plan llrs limits = record {
+  block = block_of plan (λ k. slice_index_or llrs k (pos 0)) (meaning_of judge check);
+  fits = fits_check (judge.bits check) (judge.longest check) plan && (length llrs == block_length plan);
   bad_value = first_beyond llrs;
   capacity = limits.capacity;
   failures = limits.failures;

@@ -1,14 +1,16 @@
 -- The state of a decoder as the search's: kept candidates with the paths in their rows. Assumes nothing.
 use Rattle.std.specs.Prelude.{◌≡◌, ℕ, ◌+◌, ◌*◌, ◌≤◌, Bool, true, false, List, [], ◌∷◌, Option}
 use Rattle.cost.specs.Rows.{path_at}
+use Rattle.outer.specs.declared.check.Judge as judge
 use Rattle.plan.specs.Plans.{block_length, payload_bits}
 use Rattle.store.specs.declared.candidate.Candidate.{Candidate}
+use Rattle.store.specs.declared.store.Store as store
 use Rattle.store.specs.Meaning.{holds_row}
 use Rattle.search.specs.Stores.{Contents, ruled}
 use Rattle.search.specs.Calls as search
 use Rattle.search.specs.Laws.{AllExact}
 use Rattle.search.specs.Paths.{information_from}
-use Rattle.model.specs.Blocks.{Meaning, kinds_of, block_of}
+use Rattle.model.specs.Blocks.{Meaning, meaning_of, kinds_of, block_of}
 use Rattle.model.specs.Reading.{first_bits, candidate_in, contents_in}
 use Rattle.decoder.specs.Blocks.{plan_in, llr_in}
 use Rattle.decoder.specs.declared.decoder.Decoder.{Decoder}
@@ -22,13 +24,8 @@ pub record Meanings (S C : Type 0) : Type 0 where
   pub floor : S → Option ℕ
   pub check : C → Meaning
 
-abbrev pub meanings : {S C : Type 0} → (S → List Candidate) → (S → ℕ) → (S → Option ℕ) → (C → ℕ → List Bool → Bool) → (C → ℕ → List Bool → Bool) → (C → ℕ → List Bool → List Bool) → Meanings S C
-meanings kept capacity floor accepted hopeless carried = record {
-  kept = kept;
-  capacity = capacity;
-  floor = floor;
-  check = λ c. record { accepted = accepted c; hopeless = hopeless c; carried = carried c };
-}
+abbrev pub meanings : {S C : Type 0} → store.Ghosts S → judge.Ghosts C → Meanings S C
+meanings store judge = record { kept = store.kept; capacity = store.capacity; floor = store.floor; check = meaning_of judge }
 
 abbrev pub contents_of : {S C : Type 0} → Meanings S C → Decoder S C → Contents
 contents_of m d = contents_in (path_at d.rows) (m.kept d.store) (m.capacity d.store) (m.floor d.store)

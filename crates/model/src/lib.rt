@@ -5,29 +5,21 @@
 ghost use Rattle.model.specs.Laws.{BlockIsLawful, WordCostsContradictions, WordsJudgedWhole, StoreReadsAsRuled};
 
 // A plan, soft values and a check that keeps its law make a block that the search may be loaded with.
-pub fn block_is_lawful() -> u8
+pub fn block_is_lawful()
     ensures { BlockIsLawful }
-{
-    0
-}
+{}
 
 // The metric of a word is what its codeword contradicts.
-pub fn word_costs_contradictions() -> u8
+pub fn word_costs_contradictions()
     ensures { WordCostsContradictions }
-{
-    0
-}
+{}
 
 // A word has as many information bits as the plan says.
-pub fn words_judged_whole() -> u8
+pub fn words_judged_whole()
     ensures { WordsJudgedWhole }
-{
-    0
-}
+{}
 
 // Emptied, put into, taken from and asked, a store as it is read does what the store of the rules does.
-pub fn store_reads_as_ruled() -> u8
+pub fn store_reads_as_ruled()
     ensures { StoreReadsAsRuled }
-{
-    0
-}
+{}

@@ -1,15 +1,16 @@
 -- A run of calls, one call at a time, and the promise over all of it. Assumes nothing.
 use Rattle.std.proofs.Common.{◌≡◌, ℕ, zero, suc, ◌+◌, ◌<◌, ◌≤◌, List, [], ◌∷◌, ◌++◌, map, length, get_or, take, drop, ℤ, pos, sym, refl, ap, ◌∙◌, subst, ap₂}
 use Rattle.std.proofs.lemmas.List.{append_assoc, append-nil, drop-map, drop_more, drop_all, length-map}
+use Rattle.outer.specs.declared.check.Judge as judge
 use Rattle.search.specs.Calls as search
 use Rattle.search.specs.Records.{LawfulCall, LawfulCalls, recorded, after}
 use Rattle.search.specs.Search.{called}
 use Rattle.search.specs.Stores.{Contents, ruled}
 use Rattle.search.proofs.Rules.{rules-make-a-store}
 use Rattle.search.proofs.Runs.{promise-kept}
+use Rattle.model.specs.Blocks.{meaning_of}
 use Rattle.model.specs.Laws.{Hopeful}
 use Rattle.model.proofs.Blocks.{block-is-lawful}
-use Rattle.decoder.specs.States.{Meanings}
 use Rattle.replay.specs.Plays.{call_of, heard, output_left, scratch_left}
 use Rattle.replay.specs.Replays.{KeepsPromise, answers_in, calls_of, left_after}
 use Rattle.replay.specs.declared.call.Answer.{Answer}
@@ -71,26 +72,26 @@ pub no_call : (f : Call → search.Call) (calls : List Call) (i : ℕ) → lengt
 no_call f calls i h = drop_all i (map f calls) (subst (λ n. n ≤ i) (sym (length-map calls f)) h)
 
 pub same-call :
-    {S C : Type 0} (m : Meanings S C) (bits longest : C → ℕ) (check check' : C) (values : List ℤ) (scratch scratch' output output' : ℕ) (c : Call)
+    {C : Type 0} (judge : judge.Ghosts C) (check check' : C) (values : List ℤ) (scratch scratch' output output' : ℕ) (c : Call)
     → check ≡ check' → scratch ≡ scratch' → output ≡ output'
-    → call_of m bits longest check values scratch output c ≡ call_of m bits longest check' values scratch' output' c
-same-call m bits longest check check' values scratch scratch' output output' c p q r =
-    ap₂ (λ k w. call_of m bits longest k values w output c) p q ∙ ap (λ o. call_of m bits longest check' values scratch' o c) r
+    → call_of judge check values scratch output c ≡ call_of judge check' values scratch' output' c
+same-call judge check check' values scratch scratch' output output' c p q r =
+    ap₂ (λ k w. call_of judge k values w output c) p q ∙ ap (λ o. call_of judge check' values scratch' o c) r
 
 -- The promise
 
-module _ {S C : Type 0} (m : Meanings S C) (bits longest : C → ℕ) (check : C) (values : List ℤ) (scratch output : ℕ) (hopeful : Hopeful (m.check check)) where
-  lawful-call : (c : Call) → LawfulCall (call_of m bits longest check values scratch output c)
+module _ {C : Type 0} (judge : judge.Ghosts C) (check : C) (values : List ℤ) (scratch output : ℕ) (hopeful : Hopeful (meaning_of judge check)) where
+  lawful-call : (c : Call) → LawfulCall (call_of judge check values scratch output c)
   lawful-call call.Report = tt
   lawful-call call.Strike = tt
-  lawful-call (call.Load plan at count limits) = λ granted. block-is-lawful plan (λ k. get_or (take count (drop at values)) k (pos 0)) (m.check check) hopeful
+  lawful-call (call.Load plan at count limits) = λ granted. block-is-lawful plan (λ k. get_or (take count (drop at values)) k (pos 0)) (meaning_of judge check) hopeful
   lawful-call (call.Advance budget words) = tt
   lawful-call (call.Word bytes) = tt
 
-  lawful-calls : (k : ℕ) (calls : List Call) → LawfulCalls (take k (calls_of m bits longest check values scratch output calls))
+  lawful-calls : (k : ℕ) (calls : List Call) → LawfulCalls (take k (calls_of judge check values scratch output calls))
   lawful-calls zero calls = tt
   lawful-calls (suc k) [] = tt
   lawful-calls (suc k) (c ∷ cs) = (lawful-call c, lawful-calls k cs)
 
-  pub keeps-promise : (s : Contents) (calls : List Call) → KeepsPromise (record { start = search.Blank s; calls = calls_of m bits longest check values scratch output calls })
-  keeps-promise s calls k = promise-kept ruled rules-make-a-store s (take k (calls_of m bits longest check values scratch output calls)) (lawful-calls k calls)
+  pub keeps-promise : (s : Contents) (calls : List Call) → KeepsPromise (record { start = search.Blank s; calls = calls_of judge check values scratch output calls })
+  keeps-promise s calls k = promise-kept ruled rules-make-a-store s (take k (calls_of judge check values scratch output calls)) (lawful-calls k calls)

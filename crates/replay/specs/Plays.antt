@@ -2,10 +2,10 @@
 -- Assumes nothing.
 use Rattle.std.specs.Prelude.{◌≡◌, ℕ, ◌-◌, ◌*◌, min, List, ◌++◌, map, length, take, drop, replicate, ℤ, pos}
 use Rattle.code.specs.Sending.{byte_of}
+use Rattle.outer.specs.declared.check.Judge as judge
 use Rattle.search.specs.Calls as search
 use Rattle.search.specs.Stores.{Contents}
 use Rattle.decoder.specs.Answers.{request_of}
-use Rattle.decoder.specs.States.{Meanings}
 use Rattle.decoder.specs.declared.report.Report.{Report}
 use Rattle.decoder.specs.declared.report.Met.{Met}
 use Rattle.decoder.specs.declared.report.Met.TheVariants as met
@@ -16,12 +16,12 @@ use Rattle.replay.specs.declared.call.Answer.TheVariants as answer
 use Rattle.replay.specs.declared.call.Payload.{Payload}
 
 -- a call of a decoder over a check, where there are these soft values, and so many words of scratch and bytes of output
-abbrev pub call_of : {S C : Type 0} → Meanings S C → (bits longest : C → ℕ) → C → (values : List ℤ) (scratch output : ℕ) → Call → search.Call
-call_of m bits longest check values scratch output call.Report = search.Report
-call_of m bits longest check values scratch output call.Strike = search.Strike
-call_of m bits longest check values scratch output (call.Load plan at count limits) = search.Load (request_of (bits check) (longest check) (m.check check) plan (take count (drop at values)) limits)
-call_of m bits longest check values scratch output (call.Advance budget words) = search.Advance budget (min words scratch)
-call_of m bits longest check values scratch output (call.Word bytes) = search.Word (min bytes output)
+abbrev pub call_of : {C : Type 0} → judge.Ghosts C → C → (values : List ℤ) (scratch output : ℕ) → Call → search.Call
+call_of judge check values scratch output call.Report = search.Report
+call_of judge check values scratch output call.Strike = search.Strike
+call_of judge check values scratch output (call.Load plan at count limits) = search.Load (request_of judge check plan (take count (drop at values)) limits)
+call_of judge check values scratch output (call.Advance budget words) = search.Advance budget (min words scratch)
+call_of judge check values scratch output (call.Word bytes) = search.Word (min bytes output)
 
 abbrev pub report_from : search.Figures → Report
 report_from f = record { shown = f.shown; floor = f.floor; bound = f.bound; steps = f.steps; failures = f.failures }

@@ -49,11 +49,11 @@ fn play_advance<S: Store, C: Judge>(
     budget: u32,
     scratch: &mut [i32],
 ) -> Answer
-    ensures model { Coherent (meanings S.kept S.capacity S.floor C.accepted C.hopeless C.carried) decoder.old → model_of (meanings S.kept S.capacity S.floor C.accepted C.hopeless C.carried) decoder.new ≡ (called ruled (model_of (meanings S.kept S.capacity S.floor C.accepted C.hopeless C.carried) decoder.old) (search.Advance budget (length scratch.old))).0 }
-    ensures answer { Coherent (meanings S.kept S.capacity S.floor C.accepted C.hopeless C.carried) decoder.old → result ≡ heard (called ruled (model_of (meanings S.kept S.capacity S.floor C.accepted C.hopeless C.carried) decoder.old) (search.Advance budget (length scratch.old))).1 }
-    ensures coherent { Coherent (meanings S.kept S.capacity S.floor C.accepted C.hopeless C.carried) decoder.old → Coherent (meanings S.kept S.capacity S.floor C.accepted C.hopeless C.carried) decoder.new }
+    ensures model { Coherent (meanings S.Store C.Judge) decoder.old → model_of (meanings S.Store C.Judge) decoder.new ≡ (called ruled (model_of (meanings S.Store C.Judge) decoder.old) (search.Advance budget (length scratch.old))).0 }
+    ensures answer { Coherent (meanings S.Store C.Judge) decoder.old → result ≡ heard (called ruled (model_of (meanings S.Store C.Judge) decoder.old) (search.Advance budget (length scratch.old))).1 }
+    ensures coherent { Coherent (meanings S.Store C.Judge) decoder.old → Coherent (meanings S.Store C.Judge) decoder.new }
     ensures check { decoder.new.check ≡ decoder.old.check }
-    ensures scratch { Coherent (meanings S.kept S.capacity S.floor C.accepted C.hopeless C.carried) decoder.old → scratch.new ≡ scratch_left (model_of (meanings S.kept S.capacity S.floor C.accepted C.hopeless C.carried) decoder.old) (called ruled (model_of (meanings S.kept S.capacity S.floor C.accepted C.hopeless C.carried) decoder.old) (search.Advance budget (length scratch.old))).1 scratch.old }
+    ensures scratch { Coherent (meanings S.Store C.Judge) decoder.old → scratch.new ≡ scratch_left (model_of (meanings S.Store C.Judge) decoder.old) (called ruled (model_of (meanings S.Store C.Judge) decoder.old) (search.Advance budget (length scratch.old))).1 scratch.old }
     ensures refused { (KeptBy result decoder.old decoder.new) × (KeptBy result scratch.old scratch.new) }
 {
     match decoder.advance(budget, scratch) {
@@ -64,8 +64,8 @@ fn play_advance<S: Store, C: Judge>(
 
 // A word call with all of output.
 fn play_word<S: Store, C: Judge>(decoder: &Decoder<S, C>, output: &mut [u8]) -> Answer
-    ensures answer { Coherent (meanings S.kept S.capacity S.floor C.accepted C.hopeless C.carried) decoder.now → result ≡ heard (called ruled (model_of (meanings S.kept S.capacity S.floor C.accepted C.hopeless C.carried) decoder.now) (search.Word (length output.old))).1 }
-    ensures output { Coherent (meanings S.kept S.capacity S.floor C.accepted C.hopeless C.carried) decoder.now → output.new ≡ output_left (model_of (meanings S.kept S.capacity S.floor C.accepted C.hopeless C.carried) decoder.now) (called ruled (model_of (meanings S.kept S.capacity S.floor C.accepted C.hopeless C.carried) decoder.now) (search.Word (length output.old))).1 output.old }
+    ensures answer { Coherent (meanings S.Store C.Judge) decoder.now → result ≡ heard (called ruled (model_of (meanings S.Store C.Judge) decoder.now) (search.Word (length output.old))).1 }
+    ensures output { Coherent (meanings S.Store C.Judge) decoder.now → output.new ≡ output_left (model_of (meanings S.Store C.Judge) decoder.now) (called ruled (model_of (meanings S.Store C.Judge) decoder.now) (search.Word (length output.old))).1 output.old }
     ensures refused { KeptBy result output.old output.new }
 {
     match decoder.word(output) {
@@ -82,12 +82,12 @@ pub fn play<S: Store, C: Judge>(
     scratch: &mut [i32],
     output: &mut [u8],
 ) -> Answer
-    ensures model { Coherent (meanings S.kept S.capacity S.floor C.accepted C.hopeless C.carried) decoder.old → model_of (meanings S.kept S.capacity S.floor C.accepted C.hopeless C.carried) decoder.new ≡ (called ruled (model_of (meanings S.kept S.capacity S.floor C.accepted C.hopeless C.carried) decoder.old) (call_of (meanings S.kept S.capacity S.floor C.accepted C.hopeless C.carried) C.bits C.longest decoder.old.check values.now (length scratch.old) (length output.old) call)).0 }
-    ensures answer { Coherent (meanings S.kept S.capacity S.floor C.accepted C.hopeless C.carried) decoder.old → result ≡ heard (called ruled (model_of (meanings S.kept S.capacity S.floor C.accepted C.hopeless C.carried) decoder.old) (call_of (meanings S.kept S.capacity S.floor C.accepted C.hopeless C.carried) C.bits C.longest decoder.old.check values.now (length scratch.old) (length output.old) call)).1 }
-    ensures coherent { Coherent (meanings S.kept S.capacity S.floor C.accepted C.hopeless C.carried) decoder.old → Coherent (meanings S.kept S.capacity S.floor C.accepted C.hopeless C.carried) decoder.new }
+    ensures model { Coherent (meanings S.Store C.Judge) decoder.old → model_of (meanings S.Store C.Judge) decoder.new ≡ (called ruled (model_of (meanings S.Store C.Judge) decoder.old) (call_of C.Judge decoder.old.check values.now (length scratch.old) (length output.old) call)).0 }
+    ensures answer { Coherent (meanings S.Store C.Judge) decoder.old → result ≡ heard (called ruled (model_of (meanings S.Store C.Judge) decoder.old) (call_of C.Judge decoder.old.check values.now (length scratch.old) (length output.old) call)).1 }
+    ensures coherent { Coherent (meanings S.Store C.Judge) decoder.old → Coherent (meanings S.Store C.Judge) decoder.new }
     ensures check { decoder.new.check ≡ decoder.old.check }
-    ensures scratch { Coherent (meanings S.kept S.capacity S.floor C.accepted C.hopeless C.carried) decoder.old → scratch.new ≡ scratch_left (model_of (meanings S.kept S.capacity S.floor C.accepted C.hopeless C.carried) decoder.old) (called ruled (model_of (meanings S.kept S.capacity S.floor C.accepted C.hopeless C.carried) decoder.old) (call_of (meanings S.kept S.capacity S.floor C.accepted C.hopeless C.carried) C.bits C.longest decoder.old.check values.now (length scratch.old) (length output.old) call)).1 scratch.old }
-    ensures output { Coherent (meanings S.kept S.capacity S.floor C.accepted C.hopeless C.carried) decoder.old → output.new ≡ output_left (model_of (meanings S.kept S.capacity S.floor C.accepted C.hopeless C.carried) decoder.old) (called ruled (model_of (meanings S.kept S.capacity S.floor C.accepted C.hopeless C.carried) decoder.old) (call_of (meanings S.kept S.capacity S.floor C.accepted C.hopeless C.carried) C.bits C.longest decoder.old.check values.now (length scratch.old) (length output.old) call)).1 output.old }
+    ensures scratch { Coherent (meanings S.Store C.Judge) decoder.old → scratch.new ≡ scratch_left (model_of (meanings S.Store C.Judge) decoder.old) (called ruled (model_of (meanings S.Store C.Judge) decoder.old) (call_of C.Judge decoder.old.check values.now (length scratch.old) (length output.old) call)).1 scratch.old }
+    ensures output { Coherent (meanings S.Store C.Judge) decoder.old → output.new ≡ output_left (model_of (meanings S.Store C.Judge) decoder.old) (called ruled (model_of (meanings S.Store C.Judge) decoder.old) (call_of C.Judge decoder.old.check values.now (length scratch.old) (length output.old) call)).1 output.old }
     ensures refused { (KeptBy result decoder.old decoder.new) × ((KeptBy result scratch.old scratch.new) × (KeptBy result output.old output.new)) }
 {
     match call {

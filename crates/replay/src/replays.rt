@@ -23,12 +23,12 @@ pub fn replay<S: Store, C: Judge>(
     scratch: &mut [i32],
     output: &mut [u8],
 ) -> (Decoder<S, C>, Result<Vec<Answer>, AllocError>)
-    ensures answers { IfOk result.1 (λ answers. answers.items ≡ answers_of (run_of (meanings S.kept S.capacity S.floor C.accepted C.hopeless C.carried) C.bits C.longest store check values.now (length scratch.old) (length output.old) calls.now)) }
-    ensures promise { KeepsPromise (run_of (meanings S.kept S.capacity S.floor C.accepted C.hopeless C.carried) C.bits C.longest store check values.now (length scratch.old) (length output.old) calls.now) }
-    ensures exact { MetricsExact values.now calls.now (run_of (meanings S.kept S.capacity S.floor C.accepted C.hopeless C.carried) C.bits C.longest store check values.now (length scratch.old) (length output.old) calls.now) }
-    ensures decoder { (model_of (meanings S.kept S.capacity S.floor C.accepted C.hopeless C.carried) result.0 ≡ if_played result.1 (end_of (run_of (meanings S.kept S.capacity S.floor C.accepted C.hopeless C.carried) C.bits C.longest store check values.now (length scratch.old) (length output.old) calls.now)) (unloaded (meanings S.kept S.capacity S.floor C.accepted C.hopeless C.carried) store)) × ((Coherent (meanings S.kept S.capacity S.floor C.accepted C.hopeless C.carried) result.0) × (result.0.check ≡ check)) }
-    ensures scratch { scratch.new ≡ if_played result.1 (left_by scratch_left (run_of (meanings S.kept S.capacity S.floor C.accepted C.hopeless C.carried) C.bits C.longest store check values.now (length scratch.old) (length output.old) calls.now) scratch.old) scratch.old }
-    ensures output { output.new ≡ if_played result.1 (left_by output_left (run_of (meanings S.kept S.capacity S.floor C.accepted C.hopeless C.carried) C.bits C.longest store check values.now (length scratch.old) (length output.old) calls.now) output.old) output.old }
+    ensures answers { IfOk result.1 (λ answers. answers.items ≡ answers_of (run_of S.Store C.Judge store check values.now (length scratch.old) (length output.old) calls.now)) }
+    ensures promise { KeepsPromise (run_of S.Store C.Judge store check values.now (length scratch.old) (length output.old) calls.now) }
+    ensures exact { MetricsExact values.now calls.now (run_of S.Store C.Judge store check values.now (length scratch.old) (length output.old) calls.now) }
+    ensures decoder { (model_of (meanings S.Store C.Judge) result.0 ≡ if_played result.1 (end_of (run_of S.Store C.Judge store check values.now (length scratch.old) (length output.old) calls.now)) (unloaded (meanings S.Store C.Judge) store)) × ((Coherent (meanings S.Store C.Judge) result.0) × (result.0.check ≡ check)) }
+    ensures scratch { scratch.new ≡ if_played result.1 (left_by scratch_left (run_of S.Store C.Judge store check values.now (length scratch.old) (length output.old) calls.now) scratch.old) scratch.old }
+    ensures output { output.new ≡ if_played result.1 (left_by output_left (run_of S.Store C.Judge store check values.now (length scratch.old) (length output.old) calls.now) output.old) output.old }
 {
     let mut decoder = Decoder::new(store, check);
     let mut answers = match Vec::with_capacity(heap, calls.len()) {

@@ -12,78 +12,58 @@ ghost use Rattle.search.specs.Paths.{BlockLaws};
 ghost use Rattle.search.specs.Promise.{NothingCheaperHidden, ShownFaithfully, StepsBounded, Promise, OfEveryRun};
 
 // The store of the rules, which keeps the first S candidates in order, is a store that the search may use.
-pub fn rules_make_a_store() -> u8
+pub fn rules_make_a_store()
     ensures store { StoreLaws ruled }
     ensures capacity { CapacityLaws ruled }
-{
-    0
-}
+{}
 
 // An admissible word that is not shown costs at least the bound, and what is shown while the floor is no less than its
 // cost is the cheapest left.
-pub fn nothing_cheaper_hidden<S>() -> u8
+pub fn nothing_cheaper_hidden<S>()
     ensures { (m : Store S) → StoreLaws m → OfEveryRun m NothingCheaperHidden }
-{
-    0
-}
+{}
 
 // Shown words are admissible, at their exact cost, in order of cost, and none comes twice.
-pub fn shown_faithfully<S>() -> u8
+pub fn shown_faithfully<S>()
     ensures { (m : Store S) → StoreLaws m → OfEveryRun m ShownFaithfully }
-{
-    0
-}
+{}
 
 // The steps reported with a shown word are at most the lawful paths that cost no more than it.
-pub fn steps_bounded<S>() -> u8
+pub fn steps_bounded<S>()
     ensures { (m : Store S) → StoreLaws m → OfEveryRun m StepsBounded }
-{
-    0
-}
+{}
 
 // All three, of one run.
-pub fn promise_kept<S>() -> u8
+pub fn promise_kept<S>()
     ensures { (m : Store S) → StoreLaws m → OfEveryRun m Promise }
-{
-    0
-}
+{}
 
 // An advance of b makes at most b steps.
-pub fn advance_keeps_to_budget<S>() -> u8
+pub fn advance_keeps_to_budget<S>()
     ensures { (m : Store S) (budget : ℕ) (d : Loaded S) → MakesAtMost m budget budget d }
-{
-    0
-}
+{}
 
 // An advance that pauses and the next one do what one advance of both budgets does.
-pub fn pauses_change_nothing<S>() -> u8
+pub fn pauses_change_nothing<S>()
     ensures { (m : Store S) (first second : ℕ) (d : Loaded S) → Pauses m first d → DoAsOne m first second d }
-{
-    0
-}
+{}
 
 // A word that costs nothing, where each bit that leaves it costs something, is the first shown, after N + 1 steps.
-pub fn clean_word_comes_first<S>() -> u8
+pub fn clean_word_comes_first<S>()
     ensures { (m : Store S) → StoreLaws m → CapacityLaws m → CleanComesFirst m }
-{
-    0
-}
+{}
 
 // Each step and each call keep of every kept candidate that its path is lawful, its metric the path's cost and its
 // serial an earlier one than the next.
-pub fn candidates_stay_exact<S>() -> u8
+pub fn candidates_stay_exact<S>()
     ensures { (m : Store S) → StoreLaws m → StaysExact m }
-{
-    0
-}
+{}
 
 // The laws can be met, and small runs go as one would work them out by hand.
-pub fn examples_stand() -> u8
+pub fn examples_stand()
     ensures lawful { BlockLaws two_bits }
     ensures answers { AnsweredBy example_calls example_answers }
     ensures checked_lawful { BlockLaws checked_bits }
     ensures checked_answers { AnsweredBy checked_calls checked_answers }
     ensures parity { SecondParityStands }
-{
-    0
-}
+{}

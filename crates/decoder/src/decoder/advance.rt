@@ -23,7 +23,7 @@ const MOST_BUDGET: u32 = 65_536;
 impl<S: Store, C: Judge> Decoder<S, C> {
     // The look before a step: what ends the search, if anything does.
     fn halt(&self) -> Option<Met>
-        ensures { halt_of result ≡ search.halt ruled (loaded_of (meanings S.kept S.capacity S.floor C.accepted C.hopeless C.carried) self.now) }
+        ensures { halt_of result ≡ search.halt ruled (loaded_of (meanings S.Store C.Judge) self.now) }
     {
         if self.store.count() == 0 {
             return Some(Met::NoneLeft);
@@ -39,10 +39,10 @@ impl<S: Store, C: Judge> Decoder<S, C> {
     // Looks and steps, at most budget times; wipes its working memory on every way out.
     fn search(&mut self, budget: u32, room: &mut [i32]) -> Met
         requires room { 2 * block_length (plan_in self.old.block) ≤ length room.old }
-        ensures model { Sound (meanings S.kept S.capacity S.floor C.accepted C.hopeless C.carried) self.old → self.old.phase ≡ phase.Searching → loaded_of (meanings S.kept S.capacity S.floor C.accepted C.hopeless C.carried) self.new ≡ (search.advanced ruled budget (loaded_of (meanings S.kept S.capacity S.floor C.accepted C.hopeless C.carried) self.old)).1 }
-        ensures met { Sound (meanings S.kept S.capacity S.floor C.accepted C.hopeless C.carried) self.old → self.old.phase ≡ phase.Searching → met_of (shown_path (phase_of (meanings S.kept S.capacity S.floor C.accepted C.hopeless C.carried) self.new)) result ≡ (search.advanced ruled budget (loaded_of (meanings S.kept S.capacity S.floor C.accepted C.hopeless C.carried) self.old)).0 }
-        ensures sound { Sound (meanings S.kept S.capacity S.floor C.accepted C.hopeless C.carried) self.old → self.old.phase ≡ phase.Searching → Sound (meanings S.kept S.capacity S.floor C.accepted C.hopeless C.carried) self.new }
-        ensures loaded { Sound (meanings S.kept S.capacity S.floor C.accepted C.hopeless C.carried) self.old → self.old.phase ≡ phase.Searching → is_loaded self.new.phase ≡ true }
+        ensures model { Sound (meanings S.Store C.Judge) self.old → self.old.phase ≡ phase.Searching → loaded_of (meanings S.Store C.Judge) self.new ≡ (search.advanced ruled budget (loaded_of (meanings S.Store C.Judge) self.old)).1 }
+        ensures met { Sound (meanings S.Store C.Judge) self.old → self.old.phase ≡ phase.Searching → met_of (shown_path (phase_of (meanings S.Store C.Judge) self.new)) result ≡ (search.advanced ruled budget (loaded_of (meanings S.Store C.Judge) self.old)).0 }
+        ensures sound { Sound (meanings S.Store C.Judge) self.old → self.old.phase ≡ phase.Searching → Sound (meanings S.Store C.Judge) self.new }
+        ensures loaded { Sound (meanings S.Store C.Judge) self.old → self.old.phase ≡ phase.Searching → is_loaded self.new.phase ≡ true }
         ensures check { self.new.check ≡ self.old.check }
         ensures room { room.new ≡ replicate (length room.old) (pos 0) }
     {
@@ -69,9 +69,9 @@ impl<S: Store, C: Judge> Decoder<S, C> {
 
     // Makes at most budget steps, with scratch of at least 2N words to work in.
     pub fn advance(&mut self, budget: u32, scratch: &mut [i32]) -> Result<(Met, Report), Refusal>
-        ensures model { Coherent (meanings S.kept S.capacity S.floor C.accepted C.hopeless C.carried) self.old → model_of (meanings S.kept S.capacity S.floor C.accepted C.hopeless C.carried) self.new ≡ (search.called ruled (model_of (meanings S.kept S.capacity S.floor C.accepted C.hopeless C.carried) self.old) (calls.Advance budget (length scratch.old))).0 }
-        ensures answer { Coherent (meanings S.kept S.capacity S.floor C.accepted C.hopeless C.carried) self.old → advanced_to (model_of (meanings S.kept S.capacity S.floor C.accepted C.hopeless C.carried) self.new) result ≡ (search.called ruled (model_of (meanings S.kept S.capacity S.floor C.accepted C.hopeless C.carried) self.old) (calls.Advance budget (length scratch.old))).1 }
-        ensures coherent { Coherent (meanings S.kept S.capacity S.floor C.accepted C.hopeless C.carried) self.old → Coherent (meanings S.kept S.capacity S.floor C.accepted C.hopeless C.carried) self.new }
+        ensures model { Coherent (meanings S.Store C.Judge) self.old → model_of (meanings S.Store C.Judge) self.new ≡ (search.called ruled (model_of (meanings S.Store C.Judge) self.old) (calls.Advance budget (length scratch.old))).0 }
+        ensures answer { Coherent (meanings S.Store C.Judge) self.old → advanced_to (model_of (meanings S.Store C.Judge) self.new) result ≡ (search.called ruled (model_of (meanings S.Store C.Judge) self.old) (calls.Advance budget (length scratch.old))).1 }
+        ensures coherent { Coherent (meanings S.Store C.Judge) self.old → Coherent (meanings S.Store C.Judge) self.new }
         ensures check { self.new.check ≡ self.old.check }
         ensures scratch { scratch.new ≡ scratch_after result (block_length (plan_in self.old.block)) scratch.old }
         ensures refusal { error_of result ≡ advance_verdict self.old.phase (block_length (plan_in self.old.block)) budget (length scratch.old) }

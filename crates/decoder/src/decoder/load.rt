@@ -5,6 +5,7 @@ ghost use Rattle.decoder.specs.Firsts.{CleanFirst};
 ghost use Rattle.decoder.specs.Limits.{limits_allowed};
 ghost use Rattle.decoder.specs.Phases.{error_of};
 ghost use Rattle.decoder.specs.States.{meanings, model_of, Coherent};
+ghost use Rattle.model.specs.Blocks.{meaning_of};
 ghost use Rattle.plan.specs.Plans.{block_length};
 ghost use Rattle.search.specs.Stores.{ruled};
 ghost use Rattle.search.specs.Calls as search;
@@ -35,7 +36,7 @@ impl<S: Store, C: Judge> Decoder<S, C> {
 
     // The block that may be loaded, or why none.
     fn examined(&self, plan: &Plan, llrs: &[i32], limits: Limits) -> Result<Block, Refusal>
-        ensures { Examined (request_of (C.bits self.now.check) (C.longest self.now.check) ((meanings S.kept S.capacity S.floor C.accepted C.hopeless C.carried).check self.now.check) plan.now llrs.now limits) ((meanings S.kept S.capacity S.floor C.accepted C.hopeless C.carried).check self.now.check) limits result }
+        ensures { Examined (request_of C.Judge self.now.check plan.now llrs.now limits) (meaning_of C.Judge self.now.check) limits result }
     {
         if !self.may_load(plan, llrs, limits) {
             return Err(Refusal::Block { at: 0 });
@@ -48,8 +49,8 @@ impl<S: Store, C: Judge> Decoder<S, C> {
     // Makes the path of length 0 the only one that is kept.
     fn start(&mut self, block: Block, limits: Limits)
         requires limits { limits_allowed limits ≡ true }
-        ensures model { model_of (meanings S.kept S.capacity S.floor C.accepted C.hopeless C.carried) self.new ≡ search.Busy (started_with block ((meanings S.kept S.capacity S.floor C.accepted C.hopeless C.carried).check self.old.check) limits) }
-        ensures coherent { Coherent (meanings S.kept S.capacity S.floor C.accepted C.hopeless C.carried) self.new }
+        ensures model { model_of (meanings S.Store C.Judge) self.new ≡ search.Busy (started_with block (meaning_of C.Judge self.old.check) limits) }
+        ensures coherent { Coherent (meanings S.Store C.Judge) self.new }
         ensures check { self.new.check ≡ self.old.check }
     {
         self.store.empty(limits.capacity);
@@ -67,11 +68,11 @@ impl<S: Store, C: Judge> Decoder<S, C> {
 
     // Takes a plan with its soft values, and starts to search from the path of length 0.
     pub fn load(&mut self, plan: &Plan, llrs: &[i32], limits: Limits) -> Result<Report, Refusal>
-        ensures model { model_of (meanings S.kept S.capacity S.floor C.accepted C.hopeless C.carried) self.new ≡ (called ruled (model_of (meanings S.kept S.capacity S.floor C.accepted C.hopeless C.carried) self.old) (search.Load (request_of (C.bits self.old.check) (C.longest self.old.check) ((meanings S.kept S.capacity S.floor C.accepted C.hopeless C.carried).check self.old.check) plan.now llrs.now limits))).0 }
-        ensures answer { reported result ≡ (called ruled (model_of (meanings S.kept S.capacity S.floor C.accepted C.hopeless C.carried) self.old) (search.Load (request_of (C.bits self.old.check) (C.longest self.old.check) ((meanings S.kept S.capacity S.floor C.accepted C.hopeless C.carried).check self.old.check) plan.now llrs.now limits))).1 }
-        ensures coherent { Coherent (meanings S.kept S.capacity S.floor C.accepted C.hopeless C.carried) self.old → Coherent (meanings S.kept S.capacity S.floor C.accepted C.hopeless C.carried) self.new }
+        ensures model { model_of (meanings S.Store C.Judge) self.new ≡ (called ruled (model_of (meanings S.Store C.Judge) self.old) (search.Load (request_of C.Judge self.old.check plan.now llrs.now limits))).0 }
+        ensures answer { reported result ≡ (called ruled (model_of (meanings S.Store C.Judge) self.old) (search.Load (request_of C.Judge self.old.check plan.now llrs.now limits))).1 }
+        ensures coherent { Coherent (meanings S.Store C.Judge) self.old → Coherent (meanings S.Store C.Judge) self.new }
         ensures check { self.new.check ≡ self.old.check }
-        ensures clean { error_of result ≡ None → CleanFirst plan.now ((meanings S.kept S.capacity S.floor C.accepted C.hopeless C.carried).check self.old.check) llrs.now limits (model_of (meanings S.kept S.capacity S.floor C.accepted C.hopeless C.carried) self.new) }
+        ensures clean { error_of result ≡ None → CleanFirst plan.now (meaning_of C.Judge self.old.check) llrs.now limits (model_of (meanings S.Store C.Judge) self.new) }
         ensures refused { KeptIfRefused result self.old self.new }
     {
         let block = self.examined(plan, llrs, limits)?;

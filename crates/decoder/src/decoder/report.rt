@@ -23,11 +23,11 @@ use store::{Store, lesser};
 impl<S: Store, C: Judge> Decoder<S, C> {
     // A decoder that never was loaded, whatever its store keeps.
     pub fn new(store: S, check: C) -> Decoder<S, C>
-        ensures model { model_of (meanings S.kept S.capacity S.floor C.accepted C.hopeless C.carried) result ≡ unloaded (meanings S.kept S.capacity S.floor C.accepted C.hopeless C.carried) store }
+        ensures model { model_of (meanings S.Store C.Judge) result ≡ unloaded (meanings S.Store C.Judge) store }
         ensures phase { result.phase ≡ Blank }
         ensures store { result.store ≡ store }
         ensures check { result.check ≡ check }
-        ensures coherent { Coherent (meanings S.kept S.capacity S.floor C.accepted C.hopeless C.carried) result }
+        ensures coherent { Coherent (meanings S.Store C.Judge) result }
     {
         Decoder {
             store,
@@ -55,7 +55,7 @@ impl<S: Store, C: Judge> Decoder<S, C> {
 
     // The figures, in any phase.
     pub(crate) fn figures(&self) -> Report
-        ensures { figures_of result ≡ report_of ruled (loaded_of (meanings S.kept S.capacity S.floor C.accepted C.hopeless C.carried) self.now) }
+        ensures { figures_of result ≡ report_of ruled (loaded_of (meanings S.Store C.Judge) self.now) }
     {
         let shown = match self.phase {
             Phase::Shown(c) => Some(c.metric),
@@ -73,7 +73,7 @@ impl<S: Store, C: Judge> Decoder<S, C> {
 
     // The figures since the load.
     pub fn report(&self) -> Result<Report, Refusal>
-        ensures answer { reported result ≡ (called ruled (model_of (meanings S.kept S.capacity S.floor C.accepted C.hopeless C.carried) self.now) search.Report).1 }
+        ensures answer { reported result ≡ (called ruled (model_of (meanings S.Store C.Judge) self.now) search.Report).1 }
     {
         self.phase.admits(Phased::Report)?;
         Ok(self.figures())

@@ -32,9 +32,9 @@ fn write_bytes(bits: &[bool], output: &mut [u8])
 impl<S: Store, C: Judge> Decoder<S, C> {
     // Strikes the shown word, so that the search may go on to the next.
     pub fn strike(&mut self) -> Result<Report, Refusal>
-        ensures model { model_of (meanings S.kept S.capacity S.floor C.accepted C.hopeless C.carried) self.new ≡ (called ruled (model_of (meanings S.kept S.capacity S.floor C.accepted C.hopeless C.carried) self.old) search.Strike).0 }
-        ensures answer { reported result ≡ (called ruled (model_of (meanings S.kept S.capacity S.floor C.accepted C.hopeless C.carried) self.old) search.Strike).1 }
-        ensures coherent { Coherent (meanings S.kept S.capacity S.floor C.accepted C.hopeless C.carried) self.old → Coherent (meanings S.kept S.capacity S.floor C.accepted C.hopeless C.carried) self.new }
+        ensures model { model_of (meanings S.Store C.Judge) self.new ≡ (called ruled (model_of (meanings S.Store C.Judge) self.old) search.Strike).0 }
+        ensures answer { reported result ≡ (called ruled (model_of (meanings S.Store C.Judge) self.old) search.Strike).1 }
+        ensures coherent { Coherent (meanings S.Store C.Judge) self.old → Coherent (meanings S.Store C.Judge) self.new }
         ensures check { self.new.check ≡ self.old.check }
         ensures refused { KeptIfRefused result self.old self.new }
     {
@@ -55,7 +55,7 @@ impl<S: Store, C: Judge> Decoder<S, C> {
     // Writes the payload of the shown word into a buffer of its length.
     fn write_payload(&self, output: &mut [u8])
         requires size { length output.old ≡ payload_bits (plan_in self.now.block) }
-        ensures { Coherent (meanings S.kept S.capacity S.floor C.accepted C.hopeless C.carried) self.now → allows self.now.phase call.Word ≡ true → output.new ≡ map byte_of (payload_in (model_of (meanings S.kept S.capacity S.floor C.accepted C.hopeless C.carried) self.now)) }
+        ensures { Coherent (meanings S.Store C.Judge) self.now → allows self.now.phase call.Word ≡ true → output.new ≡ map byte_of (payload_in (model_of (meanings S.Store C.Judge) self.now)) }
     {
         let Phase::Shown(c) = self.phase else {
             return;
@@ -71,8 +71,8 @@ impl<S: Store, C: Judge> Decoder<S, C> {
 
     // Writes the payload of the shown word, a byte for each bit.
     pub fn word(&self, output: &mut [u8]) -> Result<(), Refusal>
-        ensures answer { word_answer (payload_in (model_of (meanings S.kept S.capacity S.floor C.accepted C.hopeless C.carried) self.now)) result ≡ (called ruled (model_of (meanings S.kept S.capacity S.floor C.accepted C.hopeless C.carried) self.now) (search.Word (length output.old))).1 }
-        ensures output { Coherent (meanings S.kept S.capacity S.floor C.accepted C.hopeless C.carried) self.now → output.new ≡ output_after result (payload_in (model_of (meanings S.kept S.capacity S.floor C.accepted C.hopeless C.carried) self.now)) output.old }
+        ensures answer { word_answer (payload_in (model_of (meanings S.Store C.Judge) self.now)) result ≡ (called ruled (model_of (meanings S.Store C.Judge) self.now) (search.Word (length output.old))).1 }
+        ensures output { Coherent (meanings S.Store C.Judge) self.now → output.new ≡ output_after result (payload_in (model_of (meanings S.Store C.Judge) self.now)) output.old }
         ensures refused { KeptIfRefused result output.old output.new }
     {
         self.phase.admits(Phased::Word)?;

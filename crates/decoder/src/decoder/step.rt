@@ -51,8 +51,8 @@ impl<S: Store, C: Judge> Decoder<S, C> {
     // Puts the child of c that goes on with a bit and costs more than c; one that is hopeless is left out.
     fn put_child(&mut self, c: Candidate, bit: bool, more: u32)
         requires place { c.length < block_length (plan_in self.old.block) }
-        ensures model { Ready (meanings S.kept S.capacity S.floor C.accepted C.hopeless C.carried) self.old → Costs self.old c bit more → loaded_of (meanings S.kept S.capacity S.floor C.accepted C.hopeless C.carried) self.new ≡ search.put_child ruled (path_of self.old c) (loaded_of (meanings S.kept S.capacity S.floor C.accepted C.hopeless C.carried) self.old) bit }
-        ensures later { Ready (meanings S.kept S.capacity S.floor C.accepted C.hopeless C.carried) self.old → Each (λ k. k.serial < self.new.counts.serial) (S.kept self.new.store) }
+        ensures model { Ready (meanings S.Store C.Judge) self.old → Costs self.old c bit more → loaded_of (meanings S.Store C.Judge) self.new ≡ search.put_child ruled (path_of self.old c) (loaded_of (meanings S.Store C.Judge) self.old) bit }
+        ensures later { Ready (meanings S.Store C.Judge) self.old → Each (λ k. k.serial < self.new.counts.serial) (S.kept self.new.store) }
         ensures parent { path_of self.new c ≡ path_of self.old c }
         ensures apart { ((RowsApart (S.kept self.old.store) → RowsApart (S.kept self.new.store))) × (self.new.counts.serial ≤ self.old.counts.serial + 1) }
         ensures frame { Searched self.old self.new }
@@ -78,7 +78,7 @@ impl<S: Store, C: Judge> Decoder<S, C> {
         requires place { c.length < block_length (plan_in self.old.block) }
         requires room { 2 * block_length (plan_in self.old.block) ≤ length scratch.old }
         requires held { HeldIn self.old.block memo.old scratch.old }
-        ensures model { Ready (meanings S.kept S.capacity S.floor C.accepted C.hopeless C.carried) self.old → self.old.counts.serial < 4294967294 → c.metric ≡ path_cost (log_length (plan_in self.old.block)) (llr_in self.old.block) (path_of self.old c) → loaded_of (meanings S.kept S.capacity S.floor C.accepted C.hopeless C.carried) self.new ≡ search.put_children ruled (path_of self.old c) (loaded_of (meanings S.kept S.capacity S.floor C.accepted C.hopeless C.carried) self.old) (allowed (kinds_of (plan_in self.old.block)) (path_of self.old c)) }
+        ensures model { Ready (meanings S.Store C.Judge) self.old → self.old.counts.serial < 4294967294 → c.metric ≡ path_cost (log_length (plan_in self.old.block)) (llr_in self.old.block) (path_of self.old c) → loaded_of (meanings S.Store C.Judge) self.new ≡ search.put_children ruled (path_of self.old c) (loaded_of (meanings S.Store C.Judge) self.old) (allowed (kinds_of (plan_in self.old.block)) (path_of self.old c)) }
         ensures apart { ((RowsApart (S.kept self.old.store) → RowsApart (S.kept self.new.store))) × (self.new.counts.serial ≤ self.old.counts.serial + 2) }
         ensures frame { Searched self.old self.new }
         ensures held { HeldIn self.old.block memo.new scratch.new }
@@ -117,10 +117,10 @@ impl<S: Store, C: Judge> Decoder<S, C> {
 
     // Judges a whole path: it is shown if the check accepts it.
     fn judge(&mut self, c: Candidate)
-        ensures model { c.length ≡ block_length (plan_in self.old.block) → self.old.counts.failures < 4294967295 → self.old.phase ≡ phase.Searching → loaded_of (meanings S.kept S.capacity S.floor C.accepted C.hopeless C.carried) self.new ≡ search.judged (candidate_in (path_at self.old.rows) c) (loaded_of (meanings S.kept S.capacity S.floor C.accepted C.hopeless C.carried) self.old) }
+        ensures model { c.length ≡ block_length (plan_in self.old.block) → self.old.counts.failures < 4294967295 → self.old.phase ≡ phase.Searching → loaded_of (meanings S.Store C.Judge) self.new ≡ search.judged (candidate_in (path_at self.old.rows) c) (loaded_of (meanings S.Store C.Judge) self.old) }
         ensures store { (self.new.store ≡ self.old.store) × (self.new.counts.serial ≡ self.old.counts.serial) }
         ensures frame { Framed self.old self.new }
-        ensures shown { c.length ≡ block_length (plan_in self.old.block) → self.old.phase ≡ phase.Searching → ShownWhole (meanings S.kept S.capacity S.floor C.accepted C.hopeless C.carried) self.new self.new.phase }
+        ensures shown { c.length ≡ block_length (plan_in self.old.block) → self.old.phase ≡ phase.Searching → ShownWhole (meanings S.Store C.Judge) self.new self.new.phase }
         ensures loaded { self.old.phase ≡ phase.Searching → is_loaded self.new.phase ≡ true }
     {
         if self.accepted_word(c.row) {
@@ -134,8 +134,8 @@ impl<S: Store, C: Judge> Decoder<S, C> {
     pub(crate) fn step(&mut self, memo: &mut Option<Memo>, scratch: &mut [i32])
         requires room { 2 * block_length (plan_in self.old.block) ≤ length scratch.old }
         requires held { HeldIn self.old.block memo.old scratch.old }
-        ensures model { Sound (meanings S.kept S.capacity S.floor C.accepted C.hopeless C.carried) self.old → self.old.phase ≡ phase.Searching → self.old.counts.steps < self.old.counts.most_steps → self.old.counts.failures < self.old.counts.most_failures → loaded_of (meanings S.kept S.capacity S.floor C.accepted C.hopeless C.carried) self.new ≡ search.step ruled (loaded_of (meanings S.kept S.capacity S.floor C.accepted C.hopeless C.carried) self.old) }
-        ensures sound { Sound (meanings S.kept S.capacity S.floor C.accepted C.hopeless C.carried) self.old → self.old.phase ≡ phase.Searching → self.old.counts.steps < self.old.counts.most_steps → self.old.counts.failures < self.old.counts.most_failures → Sound (meanings S.kept S.capacity S.floor C.accepted C.hopeless C.carried) self.new }
+        ensures model { Sound (meanings S.Store C.Judge) self.old → self.old.phase ≡ phase.Searching → self.old.counts.steps < self.old.counts.most_steps → self.old.counts.failures < self.old.counts.most_failures → loaded_of (meanings S.Store C.Judge) self.new ≡ search.step ruled (loaded_of (meanings S.Store C.Judge) self.old) }
+        ensures sound { Sound (meanings S.Store C.Judge) self.old → self.old.phase ≡ phase.Searching → self.old.counts.steps < self.old.counts.most_steps → self.old.counts.failures < self.old.counts.most_failures → Sound (meanings S.Store C.Judge) self.new }
         ensures loaded { self.old.phase ≡ phase.Searching → is_loaded self.new.phase ≡ true }
         ensures check { (self.new.check ≡ self.old.check) × (self.new.block ≡ self.old.block) }
         ensures held { HeldIn self.old.block memo.new scratch.new }

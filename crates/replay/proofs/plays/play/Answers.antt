@@ -10,12 +10,12 @@ use Rattle.replay.proofs.plays.play.Goals as goal
 
 pub returns-in-Advance : goal.returns-in-Advance
 returns-in-Advance g c =
-    let m = meanings g.S.Store.kept g.S.Store.capacity g.S.Store.floor g.C.Judge.accepted g.C.Judge.hopeless g.C.Judge.carried in
+    let m = meanings g.S.Store g.C.Judge in
     let d = model_of m c.args.decoder.now in
     let scratch = c.args.scratch.now in
     let output = c.args.output.now in
     let room = c.min-room.result in
-    let call = call_of m g.C.Judge.bits g.C.Judge.longest c.args.decoder.now.check c.args.values.now (length scratch) (length output) in
+    let call = call_of g.C.Judge c.args.decoder.now.check c.args.values.now (length scratch) (length output) in
     let same : search.Advance c.in-Advance.budget (length (take (room - 0) scratch)) ≡ call c.args.call =
     ap (search.Advance c.in-Advance.budget) (front_length c.in-Advance.words room scratch c.min-room.ensures) ∙ sym (ap call c.in-Advance.is) in
     let e = c.play_advance.ensures in
@@ -33,12 +33,12 @@ returns-in-Advance g c =
 
 pub returns-in-Word : goal.returns-in-Word
 returns-in-Word g c =
-    let m = meanings g.S.Store.kept g.S.Store.capacity g.S.Store.floor g.C.Judge.accepted g.C.Judge.hopeless g.C.Judge.carried in
+    let m = meanings g.S.Store g.C.Judge in
     let d = model_of m c.args.decoder.now in
     let scratch = c.args.scratch.now in
     let output = c.args.output.now in
     let room = c.min-room-in-Word.result in
-    let call = call_of m g.C.Judge.bits g.C.Judge.longest c.args.decoder.now.check c.args.values.now (length scratch) (length output) in
+    let call = call_of g.C.Judge c.args.decoder.now.check c.args.values.now (length scratch) (length output) in
     let same : search.Word (length (take (room - 0) output)) ≡ call c.args.call =
     ap search.Word (front_length c.in-Word.bytes room output c.min-room-in-Word.ensures) ∙ sym (ap call c.in-Word.is) in
     let spares = word-spares d (length (take (room - 0) output)) scratch in

@@ -7,7 +7,7 @@ use Rattle.replay.proofs.plays.play_advance.Goals as goal
 
 pub returns-in-Ok : goal.returns-in-Ok
 returns-in-Ok g c =
-    let m = meanings g.S.Store.kept g.S.Store.capacity g.S.Store.floor g.C.Judge.accepted g.C.Judge.hopeless g.C.Judge.carried in
+    let m = meanings g.S.Store g.C.Judge in
     let d = c.args.decoder.now in
     let size = block_length (plan_in d.block) in
     let room = c.args.scratch.now in

@@ -5,7 +5,7 @@ use Rattle.replay.proofs.plays.play_word.Goals as goal
 
 pub returns-in-Ok : goal.returns-in-Ok
 returns-in-Ok g c =
-    let m = meanings g.S.Store.kept g.S.Store.capacity g.S.Store.floor g.C.Judge.accepted g.C.Judge.hopeless g.C.Judge.carried in
+    let m = meanings g.S.Store g.C.Judge in
     let d = model_of m c.args.decoder.now in
     let after = c.word.new.output in
     let e = c.in-Ok.ensures in

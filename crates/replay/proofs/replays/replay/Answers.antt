@@ -10,12 +10,12 @@ use Rattle.replay.proofs.replays.replay.Goals as goal
 
 pub returns-in-Err : goal.returns-in-Err
 returns-in-Err g c =
-    let m = meanings g.S.Store.kept g.S.Store.capacity g.S.Store.floor g.C.Judge.accepted g.C.Judge.hopeless g.C.Judge.carried in
+    let m = meanings g.S.Store g.C.Judge in
     let e = c.new-decoder.ensures in
     record {
       answers = tt;
-      promise = keeps-promise m g.C.Judge.bits g.C.Judge.longest c.args.check c.args.values.now (length c.args.scratch.now) (length c.args.output.now) (g.met.C.Judge.accepted_hopeful c.args.check) _ c.args.calls.now;
-      exact = metrics-exact m g.C.Judge.bits g.C.Judge.longest c.args.check c.args.values.now (length c.args.scratch.now) (length c.args.output.now) (g.met.C.Judge.accepted_hopeful c.args.check) _ c.args.calls.now;
+      promise = keeps-promise g.C.Judge c.args.check c.args.values.now (length c.args.scratch.now) (length c.args.output.now) (g.met.C.Judge.accepted_hopeful c.args.check) _ c.args.calls.now;
+      exact = metrics-exact g.C.Judge c.args.check c.args.values.now (length c.args.scratch.now) (length c.args.output.now) (g.met.C.Judge.accepted_hopeful c.args.check) _ c.args.calls.now;
       decoder = (e.model, (e.coherent, e.check));
       scratch = refl;
       output = refl;
@@ -34,7 +34,7 @@ push_reserved-requires g c =
 
 pub loop-call-preserved : goal.loop-call-preserved
 loop-call-preserved g c =
-    let m = meanings g.S.Store.kept g.S.Store.capacity g.S.Store.floor g.C.Judge.accepted g.C.Judge.hopeless g.C.Judge.carried in
+    let m = meanings g.S.Store g.C.Judge in
     let (remains, coherent, check, len, cap) = c.loop-call.invariant in
     let taken : c.loop-call.call-index < length c.args.calls.now = c.loop-call-test.true in
     let i = c.loop-call.call-index in
@@ -43,9 +43,9 @@ loop-call-preserved g c =
     let scratch = c.args.scratch.now in
     let output = c.args.output.now in
     let here = model_of m c.loop-call.decoder in
-    let f = call_of m g.C.Judge.bits g.C.Judge.longest c.new-decoder.result.check c.args.values.now (length scratch) (length output) in
-    let same : call_of m g.C.Judge.bits g.C.Judge.longest c.loop-call.decoder.check c.args.values.now (length c.loop-call.scratch) (length c.loop-call.output) item ≡ f item =
-    same-call m g.C.Judge.bits g.C.Judge.longest c.loop-call.decoder.check c.new-decoder.result.check c.args.values.now (length c.loop-call.scratch) (length scratch) (length c.loop-call.output) (length output) item check c.loop-call.auto.scratch c.loop-call.auto.output in
+    let f = call_of g.C.Judge c.new-decoder.result.check c.args.values.now (length scratch) (length output) in
+    let same : call_of g.C.Judge c.loop-call.decoder.check c.args.values.now (length c.loop-call.scratch) (length c.loop-call.output) item ≡ f item =
+    same-call g.C.Judge c.loop-call.decoder.check c.new-decoder.result.check c.args.values.now (length c.loop-call.scratch) (length scratch) (length c.loop-call.output) (length output) item check c.loop-call.auto.scratch c.loop-call.auto.output in
     let e = c.play-answer.ensures in
     let pushed = c.push_reserved.ensures in (
       remains-less (model_of m c.new-decoder.result) here (model_of m c.play-answer.new.decoder) _ _ _ (f item) (vec_items c.loop-call.answers) (vec_items c.push_reserved.new.self) c.play-answer.result scratch c.loop-call.scratch c.play-answer.new.scratch output c.loop-call.output c.play-answer.new.output remains (next-call f calls i item taken c.call-item.is)
@@ -62,7 +62,7 @@ loop-call-preserved g c =
 
 pub returns : goal.returns
 returns g c =
-    let m = meanings g.S.Store.kept g.S.Store.capacity g.S.Store.floor g.C.Judge.accepted g.C.Judge.hopeless g.C.Judge.carried in
+    let m = meanings g.S.Store g.C.Judge in
     let (remains, coherent, check, len, cap) = c.loop-call.invariant in
     let left : length c.args.calls.now ≤ c.loop-call.call-index = c.loop-call-test.false in
     let new = c.new-decoder.ensures in
@@ -71,16 +71,16 @@ returns g c =
     let output = c.args.output.now in
     let here = model_of m c.loop-call.decoder in
     let answers = vec_items c.loop-call.answers in
-    let f = call_of m g.C.Judge.bits g.C.Judge.longest c.new-decoder.result.check c.args.values.now (length scratch) (length output) in
-    let all = λ (k : g.row.C.Denot). calls_of m g.C.Judge.bits g.C.Judge.longest k c.args.values.now (length scratch) (length output) calls in
+    let f = call_of g.C.Judge c.new-decoder.result.check c.args.values.now (length scratch) (length output) in
+    let all = λ (k : g.row.C.Denot). calls_of g.C.Judge k c.args.values.now (length scratch) (length output) calls in
     let ends : Ends (unloaded m c.args.store) here (all c.args.check) answers scratch c.loop-call.scratch output c.loop-call.output =
     subst (λ k. Ends (unloaded m c.args.store) here (all k) answers scratch c.loop-call.scratch output c.loop-call.output) new.check
     (subst (λ s. Ends s here (all c.new-decoder.result.check) answers scratch c.loop-call.scratch output c.loop-call.output) new.model
     (remains-none (model_of m c.new-decoder.result) here _ _ answers scratch c.loop-call.scratch output c.loop-call.output remains (no_call f calls c.loop-call.call-index left))) in
     record {
       answers = ends.answers_of;
-      promise = keeps-promise m g.C.Judge.bits g.C.Judge.longest c.args.check c.args.values.now (length scratch) (length output) (g.met.C.Judge.accepted_hopeful c.args.check) _ calls;
-      exact = metrics-exact m g.C.Judge.bits g.C.Judge.longest c.args.check c.args.values.now (length scratch) (length output) (g.met.C.Judge.accepted_hopeful c.args.check) _ calls;
+      promise = keeps-promise g.C.Judge c.args.check c.args.values.now (length scratch) (length output) (g.met.C.Judge.accepted_hopeful c.args.check) _ calls;
+      exact = metrics-exact g.C.Judge c.args.check c.args.values.now (length scratch) (length output) (g.met.C.Judge.accepted_hopeful c.args.check) _ calls;
       decoder = (ends.decoder, (coherent, check ∙ new.check));
       scratch = ends.scratch-of;
       output = ends.output-of;

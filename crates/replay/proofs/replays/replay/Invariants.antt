@@ -6,8 +6,8 @@ use Rattle.replay.proofs.replays.replay.Given as goal
 
 abbrev pub invariant-loop-call : goal.invariant-loop-call
 invariant-loop-call g l =
-    let m = meanings g.S.Store.kept g.S.Store.capacity g.S.Store.floor g.C.Judge.accepted g.C.Judge.hopeless g.C.Judge.carried in
-    let calls = calls_of m g.C.Judge.bits g.C.Judge.longest l.initial.decoder.check l.values (length l.initial.scratch) (length l.initial.output) l.calls in
+    let m = meanings g.S.Store g.C.Judge in
+    let calls = calls_of g.C.Judge l.initial.decoder.check l.values (length l.initial.scratch) (length l.initial.output) l.calls in
     Remains (model_of m l.initial.decoder) (model_of m l.decoder) calls (drop l.call-index calls) (vec_items l.answers) l.initial.scratch l.scratch l.initial.output l.output
     × Coherent m l.decoder
     × (l.decoder.check ≡ l.initial.decoder.check)

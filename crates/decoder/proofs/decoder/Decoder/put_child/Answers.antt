@@ -1,6 +1,6 @@
 use Rattle.std.proofs.Common.{◌≡◌, suc, ◌+◌, ◌^◌, ◌<◌, ◌≤◌, sym, refl, ◌∙◌, arith, pow_mono}
 use Rattle.cost.specs.Rows.{path_at}
-use Rattle.model.specs.Blocks.{Meaning}
+use Rattle.model.specs.Blocks.{meaning_of}
 use Rattle.decoder.specs.Blocks.{plan_in, llr_in}
 use Rattle.decoder.proofs.Apart.{apart-put}
 use Rattle.decoder.proofs.Steps.{skips, puts-child, put-later, parent-path}
@@ -14,7 +14,7 @@ left_out-requires g c =
 pub returns-then-left_out : goal.returns-then-left_out
 returns-then-left_out g c =
     let d = c.args.self.now in
-    let check : Meaning = record { accepted = g.C.Judge.accepted d.check; hopeless = g.C.Judge.hopeless d.check; carried = g.C.Judge.carried d.check } in
+    let check = meaning_of g.C.Judge d.check in
     let most : 2 ^ d.block.plan.n ≤ 2 ^ 10 = pow_mono d.block.plan.sized.1 in
     let place : c.args.c.length < 1024 = let h = c.requires.place in omega arith in
     let paths = path_at d.rows in
@@ -33,7 +33,7 @@ returns g c =
     let d = c.args.self.now in
     let s = d.store in
     let t = c.put.new.self in
-    let check : Meaning = record { accepted = g.C.Judge.accepted d.check; hopeless = g.C.Judge.hopeless d.check; carried = g.C.Judge.carried d.check } in
+    let check = meaning_of g.C.Judge d.check in
     let most : 2 ^ d.block.plan.n ≤ 2 ^ 10 = pow_mono d.block.plan.sized.1 in
     let place : c.args.c.length < 1024 = let h = c.requires.place in omega arith in
     let paths = path_at d.rows in

@@ -25,7 +25,7 @@ returns-in-Frozen g c =
     let value : to_z w32 (of_z w32 c.decision-value.result) ≡ decision (log_length p) (llr_in d.block) u i =
     to_z-of_z w32 c.decision-value.result fits ∙ c.decision-value.ensures.value ∙ ap (λ v. decision (log_length p) (llr_in d.block) v i) c.path-path.ensures in
     let kind : kinds_of p i ≡ frozen = ap kind_of (ap (λ q. kind_at q i) (sym c.plan.ensures) ∙ sym c.kind.ensures ∙ c.in-Frozen.is) in
-    let m = meanings g.S.Store.kept g.S.Store.capacity g.S.Store.floor g.C.Judge.accepted g.C.Judge.hopeless g.C.Judge.carried in
+    let m = meanings g.S.Store g.C.Judge in
     record {
       model = λ ready small metric.
           c.put_child.ensures.model ready (child-costs d c.args.c false c.contradiction.result c.requires.place metric (c.contradiction.ensures ∙ ap (λ v. contradicts v false) value))
@@ -48,7 +48,7 @@ returns-in-Parity g c =
     let kind : kinds_of p i ≡ parity = ap kind_of (ap (λ q. kind_at q i) (sym c.plan.ensures) ∙ sym c.kind.ensures ∙ c.in-Parity.is) in
     let sum : bit ≡ parity_bit (kinds_of p) (first_bits u i) i =
     c.parity_sum-bit.ensures ∙ ap₂ (λ q v. parity_bit (kinds_of q) (first_bits v i) i) c.plan-in-Parity.ensures c.path-path.ensures in
-    let m = meanings g.S.Store.kept g.S.Store.capacity g.S.Store.floor g.C.Judge.accepted g.C.Judge.hopeless g.C.Judge.carried in
+    let m = meanings g.S.Store g.C.Judge in
     record {
       model = λ ready small metric.
           c.put_child-in-Parity.ensures.model ready (child-costs d c.args.c bit c.contradiction-in-Parity.result c.requires.place metric (c.contradiction-in-Parity.ensures ∙ ap (λ v. contradicts v bit) value))
@@ -69,7 +69,7 @@ returns-in-Information g c =
     let value : to_z w32 (of_z w32 c.decision-value.result) ≡ decision (log_length p) (llr_in d.block) u i =
     to_z-of_z w32 c.decision-value.result fits ∙ c.decision-value.ensures.value ∙ ap (λ v. decision (log_length p) (llr_in d.block) v i) c.path-path.ensures in
     let kind : kinds_of p i ≡ information = ap kind_of (ap (λ q. kind_at q i) (sym c.plan.ensures) ∙ sym c.kind.ensures ∙ c.in-Information.is) in
-    let m = meanings g.S.Store.kept g.S.Store.capacity g.S.Store.floor g.C.Judge.accepted g.C.Judge.hopeless g.C.Judge.carried in
+    let m = meanings g.S.Store g.C.Judge in
     let one = c.put_child-in-Information.ensures in
     let two = c.put_child-in-Information-2.ensures in
     record {

@@ -6,7 +6,7 @@ use Rattle.decoder.proofs.Advances.{Going}
 use Rattle.decoder.proofs.decoder.Decoder.search.Given as goal
 
 abbrev pub means : (g : goal.Over) → Meanings g.row.S.Denot g.row.C.Denot
-means g = meanings g.S.Store.kept g.S.Store.capacity g.S.Store.floor g.C.Judge.accepted g.C.Judge.hopeless g.C.Judge.carried
+means g = meanings g.S.Store g.C.Judge
 
 abbrev pub invariant-loop : goal.invariant-loop
 invariant-loop g l =

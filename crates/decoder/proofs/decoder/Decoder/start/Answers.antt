@@ -3,7 +3,7 @@ use Rattle.cost.specs.Rows.{path_at}
 use Rattle.search.specs.Calls as search
 use Rattle.search.specs.Stores.{put_into, emptied_to}
 use Rattle.search.specs.Search.{root}
-use Rattle.model.specs.Blocks.{block_of}
+use Rattle.model.specs.Blocks.{meaning_of, block_of}
 use Rattle.model.specs.Reading.{contents_in}
 use Rattle.model.proofs.Blocks.{path-start}
 use Rattle.model.proofs.Following.{start-follows}
@@ -17,7 +17,7 @@ returns g c =
     let s = c.empty.new.self in
     let t = c.put.new.self in
     let check = c.args.self.now.check in
-    let block = block_of (plan_in c.args.block) (llr_in c.args.block) (record { accepted = g.C.Judge.accepted check; hopeless = g.C.Judge.hopeless check; carried = g.C.Judge.carried check }) in
+    let block = block_of (plan_in c.args.block) (llr_in c.args.block) (meaning_of g.C.Judge check) in
     let limits = c.args.limits in
     let same : contents_in (path_at c.args.self.now.rows) (g.S.Store.kept t) (g.S.Store.capacity t) (g.S.Store.floor t) ≡ put_into (emptied_to limits.capacity) root =
     start-follows (path_at c.args.self.now.rows) (g.S.Store.kept s) (g.S.Store.kept t) (g.S.Store.capacity s) (g.S.Store.capacity t) (g.S.Store.floor s) (g.S.Store.floor t) limits.capacity 0 c.empty.ensures.kept c.empty.ensures.capacity c.empty.ensures.floor c.put.ensures.kept c.put.ensures.capacity c.put.ensures.floor in

@@ -10,7 +10,7 @@ use Rattle.decoder.proofs.decoder.Decoder.step.Goals as goal
 pub returns-in_default : goal.returns-in_default
 returns-in_default g c =
     let d = c.args.self.now in
-    let m = meanings g.S.Store.kept g.S.Store.capacity g.S.Store.floor g.C.Judge.accepted g.C.Judge.hopeless g.C.Judge.carried in
+    let m = meanings g.S.Store g.C.Judge in
     let took = c.take.ensures in
     let model = none-taken m d c.take.new.self (sym took.result ∙ c.in_default.is) took.kept took.capacity took.floor in
     record {
@@ -24,7 +24,7 @@ returns-in_default g c =
 pub returns-then-c-length : goal.returns-then-c-length
 returns-then-c-length g c =
     let d = c.args.self.now in
-    let m = meanings g.S.Store.kept g.S.Store.capacity g.S.Store.floor g.C.Judge.accepted g.C.Judge.hopeless g.C.Judge.carried in
+    let m = meanings g.S.Store g.C.Judge in
     let took = c.take.ensures in
     let done = c.put_children.ensures in
     let part : c.in-Some.c.length < block_length (plan_in d.block) = let h = c.if-c-length.true in let k = c.length.ensures.result ∙ ap block_length c.plan.ensures in omega arith in
@@ -36,7 +36,7 @@ returns-then-c-length g c =
 pub returns : goal.returns
 returns g c =
     let d = c.args.self.now in
-    let m = meanings g.S.Store.kept g.S.Store.capacity g.S.Store.floor g.C.Judge.accepted g.C.Judge.hopeless g.C.Judge.carried in
+    let m = meanings g.S.Store g.C.Judge in
     let took = c.take.ensures in
     let done = c.judge.ensures in
     let long : block_length (plan_in d.block) ≤ c.in-Some.c.length = let h = c.if-c-length.false in let k = c.length.ensures.result ∙ ap block_length c.plan.ensures in omega arith in

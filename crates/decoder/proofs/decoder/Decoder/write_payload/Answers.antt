@@ -5,7 +5,7 @@ use Rattle.decoder.proofs.decoder.Decoder.write_payload.Goals as goal
 
 pub returns : goal.returns
 returns g c = λ coherent allowed.
-    let m = meanings g.S.Store.kept g.S.Store.capacity g.S.Store.floor g.C.Judge.accepted g.C.Judge.hopeless g.C.Judge.carried in
+    let m = meanings g.S.Store g.C.Judge in
     let count = c.gather-count.result in
     let all : count - 0 ≡ count = omega arith in
     let word = c.gather-count.new.word in
