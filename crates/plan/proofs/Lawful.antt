@@ -1,10 +1,9 @@
 -- From the choice of kinds to a lawful plan, and what a request within its limits says. Assumes nothing.
-use Rattle.std.proofs.Common.{◌≡◌, ℕ, ◌+◌, ◌-◌, ◌^◌, ◌<◌, ◌≤◌, Bool, true, false, cond, not, ◌||◌, eqb, ltb, List, get_or, set, replicate, Some, None, sym, refl, ap, ◌∙◌, subst, ap₂, inl, inr, arith, lit≤, pow_mono}
+use Rattle.std.proofs.Common.{◌≡◌, ℕ, ◌+◌, ◌-◌, ◌^◌, ◌≤◌, Bool, true, false, not, ◌||◌, eqb, ltb, List, get_or, set, replicate, sym, refl, ap, ◌∙◌, subst, inl, inr, arith, lit≤, pow_mono}
 use mathlib.Core.Path.{fun_ext}
 use Rattle.std.proofs.lemmas.List.{get_or-set_other, get_or-replicate, get_or_past, length-replicate}
-use Rattle.std.proofs.lemmas.Bool.{cases_Bool, cases_lt, both_ways, or_left, lt-ltb, le-ltb}
+use Rattle.std.proofs.lemmas.Bool.{cases_Bool, cases_lt, both_ways, or_left}
 use Rattle.std.proofs.lemmas.Bool.Decides.{nat_tests}
-use Rattle.base.specs.declared.refusal.Refusal.TheVariants.{Limits, Crowded}
 use Rattle.base.specs.Counts.{all_below, any_below, count_below, sum_below}
 use Rattle.base.proofs.Counts.{all-at, count_same}
 use Rattle.plan.specs.declared.kind.Kind.{Kind}
@@ -16,7 +15,7 @@ use Rattle.plan.specs.Laws.{Counted}
 use Rattle.plan.specs.Order.{pattern, sent_by, barred_in}
 use Rattle.plan.specs.Plans.{builtin_request}
 use Rattle.plan.specs.Reliability.{weight, more_reliable}
-use Rattle.plan.specs.Requests.{length_for, word_for, mode_for, barred_for, kind_for, within_limits, verdict}
+use Rattle.plan.specs.Requests.{length_for, word_for, mode_for, barred_for, kind_for, within_limits}
 use Rattle.plan.proofs.Ladder.{reliability-total}
 use Rattle.plan.proofs.Ranks.{kinds-counted, kind-longer, open-longer, barred-frozen, beyond-frozen}
 use Rattle.plan.proofs.Sent.{mode-bounded, sent-inside}
@@ -62,27 +61,13 @@ lawful q kinds enough by_rank =
       beyond = λ i h. by_rank i ∙ beyond-frozen more_reliable (barred_for q) (length_for q) (word_for q) q.parity i h;
     }
 
-pub verdict-crowded : (q : Request) → within_limits q ≡ true → open_count (barred_for q) (length_for q) < word_for q + q.parity
-    → verdict q ≡ Some Crowded
-verdict-crowded q within few =
-    ap₂ (λ b d. cond b (cond d (Some Crowded) None) (Some Limits)) within
-    (lt-ltb (open_count (barred_for q) (length_for q)) (word_for q + q.parity) few)
-
-pub verdict-none : (q : Request) → within_limits q ≡ true → word_for q + q.parity ≤ open_count (barred_for q) (length_for q)
-    → verdict q ≡ None
-verdict-none q within enough =
-    ap₂ (λ b d. cond b (cond d (Some Crowded) None) (Some Limits)) within
-    (le-ltb (open_count (barred_for q) (length_for q)) (word_for q + q.parity) enough)
-
--- a request within its limits, its mode and marks, and the choice over all 1,024 positions
-pub record Chosen (q : Request) (mode : Mode) (marks : List Bool) (kinds : List Kind) (free : ℕ) : Type 0 where
+-- a request within its limits, its mode and marks
+pub record Matched (q : Request) (mode : Mode) (marks : List Bool) : Type 0 where
   pub within : within_limits q ≡ true
   pub moded : mode ≡ mode_for q
   pub marked : (i : ℕ) → get_or marks i false ≡ sent_by mode q.n q.sent i
-  pub chosen : (i : ℕ) → get_or kinds i Frozen ≡ kind_by more_reliable (barred_in marks q.low) 1024 (word_for q) q.parity i
-  pub counted : free ≡ open_count (barred_in marks q.low) 1024
 
-module _ (q : Request) (mode : Mode) (marks : List Bool) (kinds : List Kind) (free : ℕ) (h : Chosen q mode marks kinds free) where
+module _ (q : Request) (mode : Mode) (marks : List Bool) (h : Matched q mode marks) where
   barred-is : barred_in marks q.low ≡ barred_for q
   barred-is = fun_ext (λ i. ap (λ b. not b || ltb i q.low) (h.marked i ∙ ap (λ m. sent_by m q.n q.sent i) h.moded))
 
@@ -94,18 +79,16 @@ module _ (q : Request) (mode : Mode) (marks : List Bool) (kinds : List Kind) (fr
   whole : 1024 - length_for q + length_for q ≡ 1024
   whole = omega (arith, pow_mono (limited q h.within).sized.1)
 
-  -- it is the choice over the block
-  pub chosen-kinds : (i : ℕ) → get_or kinds i Frozen ≡ kind_for q i
-  chosen-kinds i =
-      h.chosen i
-      ∙ ap (λ b. kind_by more_reliable b 1024 (word_for q) q.parity i) barred-is
+  -- the choice over all 1,024 positions is the choice over the block
+  pub matched-kinds : (i : ℕ) → kind_by more_reliable (barred_in marks q.low) 1024 (word_for q) q.parity i ≡ kind_for q i
+  matched-kinds i =
+      ap (λ b. kind_by more_reliable b 1024 (word_for q) q.parity i) barred-is
       ∙ ap (λ n. kind_by more_reliable (barred_for q) n (word_for q) q.parity i) (sym whole)
       ∙ kind-longer more_reliable (barred_for q) (length_for q) (1024 - length_for q) (word_for q) q.parity barred-beyond i
 
-  pub chosen-free : free ≡ open_count (barred_for q) (length_for q)
-  chosen-free =
-      h.counted
-      ∙ ap (λ b. open_count b 1024) barred-is
+  pub matched-open : open_count (barred_in marks q.low) 1024 ≡ open_count (barred_for q) (length_for q)
+  matched-open =
+      ap (λ b. open_count b 1024) barred-is
       ∙ ap (open_count (barred_for q)) (sym whole)
       ∙ open-longer (barred_for q) (length_for q) (1024 - length_for q) barred-beyond
 

@@ -2,9 +2,10 @@
 ghost use Rattle.std.specs.Prelude.{◌≡◌, ◌<◌, ◌≤◌};
 ghost use Rattle.plan.specs.Plans.{log_length, block_length, payload_bits, check_bits, word_bits, sent_bits, low_bound, parity_bits, mode_in, kind_at, place_of, sent_at};
 
+use crate::block_size::BlockSize;
 use crate::kind::Kind;
+use crate::matching::Matching;
 use crate::mode::Mode;
-use crate::order::{block_length, sent_place};
 use crate::plan::Plan;
 use crate::reliability::POSITIONS;
 
@@ -22,7 +23,7 @@ impl Plan {
         ensures result { result ≡ block_length self.now }
         ensures limits { (32 ≤ result) × (result ≤ 1024) }
     {
-        block_length(self.n)
+        BlockSize { n: self.n }.length()
     }
 
     // A, the length of the payload.
@@ -96,7 +97,7 @@ impl Plan {
         ensures inside { result < block_length self.now }
     {
         if k < self.sent_bits() {
-            sent_place(self.mode, self.n, self.sent_bits(), k)
+            self.matching().place(k)
         } else {
             0
         }
@@ -107,5 +108,17 @@ impl Plan {
         ensures { result ≡ sent_at self.now i }
     {
         i < POSITIONS && self.marks[i]
+    }
+
+    fn matching(&self) -> Matching
+        ensures size { result.size.n ≡ log_length self.now }
+        ensures sent { result.sent ≡ sent_bits self.now }
+        ensures mode { result.mode ≡ mode_in self.now }
+    {
+        Matching {
+            size: BlockSize { n: self.n },
+            sent: self.sent,
+            mode: self.mode,
+        }
     }
 }
