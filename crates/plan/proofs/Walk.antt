@@ -1,7 +1,5 @@
 -- The walk down the table of reliability: what holds after every rung, and the choice at its end. Assumes nothing.
 use Rattle.std.proofs.Common.{◌≡◌, ℕ, suc, ◌+◌, ◌-◌, ◌<◌, ◌≤◌, Bool, true, false, cond, not, ◌&&◌, leb, List, [], ◌∷◌, ◌++◌, length, get_or, set, replicate, sym, refl, ap, ◌∙◌, subst, ap₂, subst₂, inl, inr, arith, length-set}
-use Rattle.std.specs.Prelude.{IfSome}
-use Rattle.std.specs.Bool.{then_some}
 use Rattle.std.proofs.lemmas.List.{get_or-set_same, get_or-set_other, get_or-replicate, get_or_past, get_or_push, length-replicate, length_push}
 use Rattle.std.proofs.Math.ListN.{get_or-append}
 use Rattle.std.proofs.lemmas.Bool.{cases_eq, cases_lt, lt-ltb}
@@ -158,11 +156,6 @@ module _ (barred : ℕ → Bool) (K p : ℕ) where
         walked = walked-barred (length rest) kinds n inside (ap barred (sym at) ∙ shut) (walked-before rest i kinds n h);
       }
 
-  -- when none is left, the kinds are the choice, kept or not by a test
+  -- when none is left, all are walked
   pub leaves-none : (rest : List ℕ) (kinds : List Kind) (n : ℕ) → length rest ≡ 0 → Leaves rest kinds n → Walked barred K p 0 kinds n
   leaves-none rest kinds n none h = subst (λ top. Walked barred K p top kinds n) none h.walked
-
-  pub chosen : (enough : Bool) (kinds : List Kind) (n : ℕ) → Walked barred K p 0 kinds n
-      → IfSome (then_some enough kinds) (λ kinds. (i : ℕ) → get_or kinds i Frozen ≡ kind_by more_reliable barred 1024 K p i)
-  chosen true kinds n h = walked_all kinds n h
-  chosen false kinds n h = tt

@@ -6,7 +6,7 @@ use Rattle.std.proofs.lemmas.Bool.{or_from, or_left, or_right, le-ltb, lt-ltb, l
 use Rattle.plan.specs.Order.{barred_in}
 use Rattle.plan.specs.Reliability.{ladder}
 use Rattle.plan.proofs.Ladder.{rung-inside}
-use Rattle.plan.proofs.Walk.{Walked, Leaves, leaves-ladder, last-rung, last-inside, leaves-open, leaves-barred, leaves-none, walked-most, walked-count, chosen}
+use Rattle.plan.proofs.Walk.{Walked, Leaves, leaves-ladder, last-rung, last-inside, leaves-open, leaves-barred, leaves-none, walked-most, walked_all, walked-count}
 use Rattle.plan.proofs.choice.choose.Goals.{In-Some, After-then_some}
 use Rattle.plan.proofs.choice.choose.Goals as goal
 
@@ -79,9 +79,8 @@ is_none-then_some m n x =
 
 pub returns-clause-chosen : goal.returns-clause-chosen
 returns-clause-chosen c =
-    rw c.then_some.ensures
-    (chosen (barred_in c.args.marks.now c.args.low) c.args.quota.word c.args.quota.parity
-    (leb c.total.result c.loop-i.open) c.loop-i.kinds c.loop-i.open (ended c))
+    let all = walked_all (barred_in c.args.marks.now c.args.low) c.args.quota.word c.args.quota.parity c.loop-i.kinds c.loop-i.open (ended c) in
+    search rules
 
 pub returns-clause-none : goal.returns-clause-none
 returns-clause-none c =
