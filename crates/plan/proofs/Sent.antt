@@ -1,5 +1,6 @@
 -- Which places are sent in each mode, and the marks of a loop over the sent bits. Assumes nothing.
 use Rattle.std.proofs.Common.{◌≡◌, ℕ, ◌+◌, ◌-◌, ◌*◌, ◌%◌, ◌^◌, ◌<◌, ◌≤◌, Bool, true, false, cond, ◌||◌, eqb, leb, ◌⊎◌, List, length, get_or, set, replicate, sym, refl, ap, ◌∙◌, subst, inl, inr, mod-eq_of_lt, add-one, arith, length-set}
+use Rattle.std.proofs.Math.Bool.{or-false}
 use Rattle.std.proofs.lemmas.Nat.{pow_pos, mod_below}
 use Rattle.std.proofs.lemmas.List.{get_or-set_same, get_or-set_other, get_or-replicate, get_or_past, length-replicate}
 use Rattle.std.proofs.lemmas.Bool.{cases_Bool, cases_eq, cases_lt, eq-eqb, ne_eqb, leb-true, leb-false, lt-ltb, le-ltb, or_right}
@@ -79,10 +80,6 @@ pub sent-inside : (mode : Mode) (n E : ℕ) → 5 ≤ n → (mode ≡ Repeat) �
 sent-inside mode n E least b i beyond =
     any_none (λ k. eqb (sent_place mode n E k) i) E
     (λ k l. ne_eqb (sent_place mode n E k) i (λ e. omega (arith, place_inside mode n E k least b l)))
-
-or-false : (b : Bool) → (b || false) ≡ b
-or-false true = refl
-or-false false = refl
 
 -- marks after the first k sent bits
 pub record Marked (places : ℕ → ℕ) (k : ℕ) (marks : List Bool) : Type 0 where

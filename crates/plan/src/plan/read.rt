@@ -7,7 +7,6 @@ use crate::kind::Kind;
 use crate::matching::Matching;
 use crate::mode::Mode;
 use crate::plan::Plan;
-use crate::reliability::POSITIONS;
 
 impl Plan {
     // n, where the block has 2 ^ n positions.
@@ -84,11 +83,7 @@ impl Plan {
     pub fn kind(&self, i: usize) -> Kind
         ensures { result ≡ kind_at self.now i }
     {
-        if i < POSITIONS {
-            self.kinds[i]
-        } else {
-            Kind::Frozen
-        }
+        self.kinds.get(i).copied().unwrap_or(Kind::Frozen)
     }
 
     // The code place of sent bit k; 0 past the last sent bit.
@@ -107,7 +102,7 @@ impl Plan {
     pub fn is_sent(&self, i: usize) -> bool
         ensures { result ≡ sent_at self.now i }
     {
-        i < POSITIONS && self.marks[i]
+        self.marks.get(i).copied().unwrap_or(false)
     }
 
     fn matching(&self) -> Matching
