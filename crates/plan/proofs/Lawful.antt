@@ -36,7 +36,7 @@ limited q h = record {
   guarded = grind (arith, nat_tests);
   aired = (grind (arith, nat_tests), grind (arith, nat_tests));
   lowered = grind (arith, nat_tests);
-  paired = elim (cases_Bool (eqb q.parity 0 || eqb q.parity 3)) [ inl s ↦ s | inr s ↦ absurd (let z : ◌≡◌ {A = ℕ} 0 1 = grind (arith, nat_tests) in omega arith) ];
+  paired = grind (arith, nat_tests);
 }
 
 -- the invariant of a plan, of a table of kinds
