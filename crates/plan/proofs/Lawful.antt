@@ -1,13 +1,15 @@
 -- From the choice of kinds to a lawful plan, and what a request within its limits says. Assumes nothing.
-use Rattle.std.proofs.Common.{◌≡◌, ℕ, ◌+◌, ◌-◌, ◌^◌, ◌≤◌, Bool, true, false, not, ◌||◌, eqb, ltb, List, get_or, set, replicate, sym, refl, ap, ◌∙◌, subst, inl, inr, arith, lit≤, pow_mono}
+use Rattle.std.proofs.Common.{◌≡◌, ℕ, ◌+◌, ◌-◌, ◌^◌, ◌≤◌, Bool, true, false, not, ◌||◌, eqb, ltb, List, map, get_or, set, replicate, sym, refl, ap, ◌∙◌, subst, inl, inr, zero-add, arith, lit≤, pow_mono}
 use mathlib.Core.Path.{fun_ext}
 use Rattle.std.proofs.lemmas.List.{get_or-set_other, get_or-replicate, get_or_past, length-replicate}
-use Rattle.std.proofs.lemmas.Bool.{cases_Bool, cases_lt, both_ways, or_left}
+use Rattle.std.proofs.lemmas.List.FromFn.{get_or-map-range_with_len}
+use Rattle.std.specs.List.{range_with_len}
+use Rattle.std.proofs.lemmas.Bool.{cases_lt, or_left}
 use Rattle.std.proofs.lemmas.Bool.Decides.{nat_tests}
-use Rattle.base.specs.Counts.{all_below, any_below, count_below, sum_below}
-use Rattle.base.proofs.Counts.{all-at, count_same}
+use Rattle.base.specs.Counts.{any_below, count_below, sum_below}
+use Rattle.base.proofs.Counts.{count_same}
 use Rattle.plan.specs.declared.kind.Kind.{Kind}
-use Rattle.plan.specs.declared.kind.Kind.TheVariants.{Frozen, Information, Parity}
+use Rattle.plan.specs.declared.kind.Kind.TheVariants.{Frozen, Information}
 use Rattle.plan.specs.declared.mode.Mode.{Mode}
 use Rattle.plan.specs.declared.request.Request.{Request}
 use Rattle.plan.specs.Kinds.{is_information, is_parity, kind_by, open_count}
@@ -92,36 +94,21 @@ module _ (q : Request) (mode : Mode) (marks : List Bool) (h : Matched q mode mar
       ∙ ap (open_count (barred_for q)) (sym whole)
       ∙ open-longer (barred_for q) (length_for q) (1024 - length_for q) barred-beyond
 
--- the built-in plan's kinds, by a computed test over its block
-equal_kinds : Kind → Kind → Bool
-equal_kinds Frozen k = not (is_information k || is_parity k)
-equal_kinds Information k = is_information k
-equal_kinds Parity k = is_parity k
-
-same_kind : (a b : Kind) → equal_kinds a b ≡ true → a ≡ b
-unfolding equal_kinds
-same_kind Frozen Frozen h = refl
-same_kind Frozen Information h = absurd (both_ways false refl h)
-same_kind Frozen Parity h = absurd (both_ways false refl h)
-same_kind Information Frozen h = absurd (both_ways false refl h)
-same_kind Information Information h = refl
-same_kind Information Parity h = absurd (both_ways false refl h)
-same_kind Parity Frozen h = absurd (both_ways false refl h)
-same_kind Parity Information h = absurd (both_ways false refl h)
-same_kind Parity Parity h = refl
-
+-- the built-in plan's kinds
 abbrev pub builtin_kinds : List Kind
 builtin_kinds = set (replicate 1024 Frozen) 31 Information
 
-builtin-block : all_below (λ i. equal_kinds (get_or builtin_kinds i Frozen) (kind_for builtin_request i)) 32 ≡ true
-unfolding all_below any_below count_below sum_below pattern weight equal_kinds
+-- the kinds of its block, by computing them
+builtin-block : map (λ i. get_or builtin_kinds i Frozen) (range_with_len 0 32) ≡ map (kind_for builtin_request) (range_with_len 0 32)
+unfolding any_below count_below sum_below pattern weight
 builtin-block = refl
 
 pub builtin-kinds : (i : ℕ) → get_or builtin_kinds i Frozen ≡ kind_for builtin_request i
 builtin-kinds i =
     elim (cases_lt i 32) [
-      | inl s ↦ same_kind (get_or builtin_kinds i Frozen) (kind_for builtin_request i)
-          (all-at (λ k. equal_kinds (get_or builtin_kinds k Frozen) (kind_for builtin_request k)) 32 builtin-block i s)
+      | inl s ↦ sym (get_or-map-range_with_len (λ k. get_or builtin_kinds k Frozen) 0 32 i i Frozen s (zero-add i))
+          ∙ ap (λ kinds. get_or kinds i Frozen) builtin-block
+          ∙ get_or-map-range_with_len (kind_for builtin_request) 0 32 i i Frozen s (zero-add i)
       | inr s ↦ get_or-set_other (replicate 1024 Frozen) 31 i Information Frozen (λ e. omega arith) ∙ frozen i
           ∙ sym (beyond-frozen more_reliable (barred_for builtin_request) 32 1 0 i s)
     ]
