@@ -53,6 +53,7 @@ impl Matching {
         ensures { (i : ℕ) → slice_index_or result i false ≡ sent_by self.now.mode self.now.size.n self.now.sent i }
     {
         let mut marks = [false; POSITIONS];
+        // k numbers the sent bits, which no list holds
         for k in 0..self.sent as usize {
             marks[self.place(k)] = true;
         }
