@@ -118,11 +118,14 @@ module _ (barred : ℕ → Bool) (K p : ℕ) where
   }
 
   -- the last of what is left is the rung before those walked
-  pub last-inside : (rest : List ℕ) (i : ℕ) (kinds : List Kind) (n : ℕ) → Leaves (rest ++ i ∷ []) kinds n → length rest < 1024
+  last-inside : (rest : List ℕ) (i : ℕ) (kinds : List Kind) (n : ℕ) → Leaves (rest ++ i ∷ []) kinds n → length rest < 1024
   last-inside rest i kinds n h = omega (arith, h.few, length_push rest i)
 
-  pub last-rung : (rest : List ℕ) (i : ℕ) (kinds : List Kind) (n : ℕ) → Leaves (rest ++ i ∷ []) kinds n → i ≡ rung_at (length rest)
+  last-rung : (rest : List ℕ) (i : ℕ) (kinds : List Kind) (n : ℕ) → Leaves (rest ++ i ∷ []) kinds n → i ≡ rung_at (length rest)
   last-rung rest i kinds n h = sym (get_or_push rest i 0 (length rest) refl) ∙ h.rungs (length rest) (omega (arith, length_push rest i))
+
+  pub last-below : (rest : List ℕ) (i : ℕ) (kinds : List Kind) (n : ℕ) → Leaves (rest ++ i ∷ []) kinds n → i < 1024
+  last-below rest i kinds n h = subst (λ x. x < 1024) (sym (last-rung rest i kinds n h)) (rung-inside (length rest) (last-inside rest i kinds n h))
 
   left-rungs : (rest : List ℕ) (i : ℕ) (kinds : List Kind) (n : ℕ) → Leaves (rest ++ i ∷ []) kinds n
       → (k : ℕ) → k < length rest → get_or rest k 0 ≡ rung_at k

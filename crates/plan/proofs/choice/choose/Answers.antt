@@ -1,20 +1,20 @@
 -- Every turn of the walk settles one rung. Assumes nothing.
-use Rattle.std.proofs.Common.{◌≡◌, ℕ, [], ◌∷◌, ◌++◌, ◌<◌, ◌≤◌, true, false, not, leb, ltb, get_or, sym, ap, ◌∙◌, ap₂, subst, inl, inr, rules}
+use Rattle.std.proofs.Common.{◌≡◌, ℕ, [], ◌∷◌, ◌++◌, ◌≤◌, true, false, not, leb, ltb, get_or, sym, ap, ◌∙◌, ap₂, subst, inl, inr, rules}
 use Rattle.std.specs.Prelude.{is_none}
 use Rattle.std.specs.Bool.{then_some}
 use Rattle.std.proofs.lemmas.Bool.{or_from, or_left, or_right, le-ltb, lt-ltb, le-leb, lt-leb, cases_lt}
 use Rattle.plan.specs.Order.{barred_in}
 use Rattle.plan.specs.Reliability.{ladder}
-use Rattle.plan.proofs.Ladder.{rung-inside}
-use Rattle.plan.proofs.Walk.{Walked, Leaves, leaves-ladder, last-rung, last-inside, leaves-open, leaves-barred, leaves-none, walked-most, walked_all, walked-count}
+use Rattle.plan.proofs.Walk.{Walked, Leaves, leaves-ladder, last-below, leaves-open, leaves-barred, leaves-none, walked-most, walked_all, walked-count}
 use Rattle.plan.proofs.choice.choose.Goals.{In-Some, After-then_some}
 use Rattle.plan.proofs.choice.choose.Goals as goal
 
 pub loop-i-init : goal.loop-i-init
 unfolding ladder
 loop-i-init c =
-    let barred = barred_in c.args.marks.now c.args.low in
-    rw c.into_iter-i-iterator.ensures.into_iter_gives (rw c.rev-i-items.ensures.source (rw c.iter.ensures.rest (leaves-ladder barred c.args.quota.word c.args.quota.parity)))
+    rw c.into_iter-i-iterator.ensures.into_iter_gives
+    (rw c.rev-i-items.ensures.source
+    (rw c.iter.ensures.rest (leaves-ladder (barred_in c.args.marks.now c.args.low) c.args.quota.word c.args.quota.parity)))
 
 -- the invariant, once the iterator has given a position
 given : (c : In-Some) → Leaves (barred_in c.args.marks.now c.args.low) c.args.quota.word c.args.quota.parity
@@ -25,14 +25,8 @@ given c =
 
 pub bounds-marks-i : goal.bounds-marks-i
 bounds-marks-i c =
-    let h = given (goal.at.bounds-marks-i c).In-Some in
-    let barred = barred_in c.args.marks.now c.args.low in
-    let K = c.args.quota.word in
-    let p = c.args.quota.parity in
-    let rest = c.next.new.self.iter.rest.now in
-    let i = c.in-Some.field-0.now in
-    subst (λ x. x < 1024) (sym (last-rung barred K p rest i c.loop-i.kinds c.loop-i.open h))
-    (rung-inside _ (last-inside barred K p rest i c.loop-i.kinds c.loop-i.open h))
+    last-below (barred_in c.args.marks.now c.args.low) c.args.quota.word c.args.quota.parity
+    c.next.new.self.iter.rest.now c.in-Some.field-0.now c.loop-i.kinds c.loop-i.open (given (goal.at.bounds-marks-i c).In-Some)
 
 pub overflow_add-open : goal.overflow_add-open
 overflow_add-open c =
