@@ -1,14 +1,15 @@
 -- From the choice of kinds to a lawful plan, and what a request within its limits says. Assumes nothing.
-use Rattle.std.proofs.Common.{◌≡◌, ℕ, ◌+◌, ◌-◌, ◌^◌, ◌<◌, ◌≤◌, Bool, true, false, cond, not, ◌||◌, eqb, ltb, List, get_or, set, replicate, Some, None, sym, refl, ap, ◌∙◌, subst, ap₂, inl, inr, arith, lit≤, pow_mono}
+use Rattle.std.proofs.Common.{◌≡◌, ℕ, ◌+◌, ◌-◌, ◌^◌, ◌≤◌, Bool, true, false, not, ◌||◌, eqb, ltb, List, map, get_or, set, replicate, sym, refl, ap, ◌∙◌, subst, inl, inr, zero-add, arith, lit≤, pow_mono}
 use mathlib.Core.Path.{fun_ext}
 use Rattle.std.proofs.lemmas.List.{get_or-set_other, get_or-replicate, get_or_past, length-replicate}
-use Rattle.std.proofs.lemmas.Bool.{cases_Bool, cases_lt, both_ways, or_left, lt-ltb, le-ltb}
+use Rattle.std.proofs.lemmas.List.FromFn.{get_or-map-range_with_len}
+use Rattle.std.specs.List.{range_with_len}
+use Rattle.std.proofs.lemmas.Bool.{cases_lt, or_left}
 use Rattle.std.proofs.lemmas.Bool.Decides.{nat_tests}
-use Rattle.base.specs.declared.refusal.Refusal.TheVariants.{Limits, Crowded}
-use Rattle.base.specs.Counts.{all_below, any_below, count_below, sum_below}
-use Rattle.base.proofs.Counts.{all-at, count_same}
+use Rattle.base.specs.Counts.{any_below, count_below, sum_below}
+use Rattle.base.proofs.Counts.{count_same}
 use Rattle.plan.specs.declared.kind.Kind.{Kind}
-use Rattle.plan.specs.declared.kind.Kind.TheVariants.{Frozen, Information, Parity}
+use Rattle.plan.specs.declared.kind.Kind.TheVariants.{Frozen, Information}
 use Rattle.plan.specs.declared.mode.Mode.{Mode}
 use Rattle.plan.specs.declared.request.Request.{Request}
 use Rattle.plan.specs.Kinds.{is_information, is_parity, kind_by, open_count}
@@ -16,7 +17,7 @@ use Rattle.plan.specs.Laws.{Counted}
 use Rattle.plan.specs.Order.{pattern, sent_by, barred_in}
 use Rattle.plan.specs.Plans.{builtin_request}
 use Rattle.plan.specs.Reliability.{weight, more_reliable}
-use Rattle.plan.specs.Requests.{length_for, word_for, mode_for, barred_for, kind_for, within_limits, verdict}
+use Rattle.plan.specs.Requests.{length_for, word_for, mode_for, barred_for, kind_for, within_limits}
 use Rattle.plan.proofs.Ladder.{reliability-total}
 use Rattle.plan.proofs.Ranks.{kinds-counted, kind-longer, open-longer, barred-frozen, beyond-frozen}
 use Rattle.plan.proofs.Sent.{mode-bounded, sent-inside}
@@ -37,7 +38,7 @@ limited q h = record {
   guarded = grind (arith, nat_tests);
   aired = (grind (arith, nat_tests), grind (arith, nat_tests));
   lowered = grind (arith, nat_tests);
-  paired = elim (cases_Bool (eqb q.parity 0 || eqb q.parity 3)) [ inl s ↦ s | inr s ↦ absurd (let z : ◌≡◌ {A = ℕ} 0 1 = grind (arith, nat_tests) in omega arith) ];
+  paired = grind (arith, nat_tests);
 }
 
 -- the invariant of a plan, of a table of kinds
@@ -62,27 +63,13 @@ lawful q kinds enough by_rank =
       beyond = λ i h. by_rank i ∙ beyond-frozen more_reliable (barred_for q) (length_for q) (word_for q) q.parity i h;
     }
 
-pub verdict-crowded : (q : Request) → within_limits q ≡ true → open_count (barred_for q) (length_for q) < word_for q + q.parity
-    → verdict q ≡ Some Crowded
-verdict-crowded q within few =
-    ap₂ (λ b d. cond b (cond d (Some Crowded) None) (Some Limits)) within
-    (lt-ltb (open_count (barred_for q) (length_for q)) (word_for q + q.parity) few)
-
-pub verdict-none : (q : Request) → within_limits q ≡ true → word_for q + q.parity ≤ open_count (barred_for q) (length_for q)
-    → verdict q ≡ None
-verdict-none q within enough =
-    ap₂ (λ b d. cond b (cond d (Some Crowded) None) (Some Limits)) within
-    (le-ltb (open_count (barred_for q) (length_for q)) (word_for q + q.parity) enough)
-
--- a request within its limits, its mode and marks, and the choice over all 1,024 positions
-pub record Chosen (q : Request) (mode : Mode) (marks : List Bool) (kinds : List Kind) (free : ℕ) : Type 0 where
+-- a request within its limits, its mode and marks
+pub record Matched (q : Request) (mode : Mode) (marks : List Bool) : Type 0 where
   pub within : within_limits q ≡ true
   pub moded : mode ≡ mode_for q
   pub marked : (i : ℕ) → get_or marks i false ≡ sent_by mode q.n q.sent i
-  pub chosen : (i : ℕ) → get_or kinds i Frozen ≡ kind_by more_reliable (barred_in marks q.low) 1024 (word_for q) q.parity i
-  pub counted : free ≡ open_count (barred_in marks q.low) 1024
 
-module _ (q : Request) (mode : Mode) (marks : List Bool) (kinds : List Kind) (free : ℕ) (h : Chosen q mode marks kinds free) where
+module _ (q : Request) (mode : Mode) (marks : List Bool) (h : Matched q mode marks) where
   barred-is : barred_in marks q.low ≡ barred_for q
   barred-is = fun_ext (λ i. ap (λ b. not b || ltb i q.low) (h.marked i ∙ ap (λ m. sent_by m q.n q.sent i) h.moded))
 
@@ -94,51 +81,34 @@ module _ (q : Request) (mode : Mode) (marks : List Bool) (kinds : List Kind) (fr
   whole : 1024 - length_for q + length_for q ≡ 1024
   whole = omega (arith, pow_mono (limited q h.within).sized.1)
 
-  -- it is the choice over the block
-  pub chosen-kinds : (i : ℕ) → get_or kinds i Frozen ≡ kind_for q i
-  chosen-kinds i =
-      h.chosen i
-      ∙ ap (λ b. kind_by more_reliable b 1024 (word_for q) q.parity i) barred-is
+  -- the choice over all 1,024 positions is the choice over the block
+  pub matched-kinds : (i : ℕ) → kind_by more_reliable (barred_in marks q.low) 1024 (word_for q) q.parity i ≡ kind_for q i
+  matched-kinds i =
+      ap (λ b. kind_by more_reliable b 1024 (word_for q) q.parity i) barred-is
       ∙ ap (λ n. kind_by more_reliable (barred_for q) n (word_for q) q.parity i) (sym whole)
       ∙ kind-longer more_reliable (barred_for q) (length_for q) (1024 - length_for q) (word_for q) q.parity barred-beyond i
 
-  pub chosen-free : free ≡ open_count (barred_for q) (length_for q)
-  chosen-free =
-      h.counted
-      ∙ ap (λ b. open_count b 1024) barred-is
+  pub matched-open : open_count (barred_in marks q.low) 1024 ≡ open_count (barred_for q) (length_for q)
+  matched-open =
+      ap (λ b. open_count b 1024) barred-is
       ∙ ap (open_count (barred_for q)) (sym whole)
       ∙ open-longer (barred_for q) (length_for q) (1024 - length_for q) barred-beyond
 
--- the built-in plan's kinds, by a computed test over its block
-equal_kinds : Kind → Kind → Bool
-equal_kinds Frozen k = not (is_information k || is_parity k)
-equal_kinds Information k = is_information k
-equal_kinds Parity k = is_parity k
-
-same_kind : (a b : Kind) → equal_kinds a b ≡ true → a ≡ b
-unfolding equal_kinds
-same_kind Frozen Frozen h = refl
-same_kind Frozen Information h = absurd (both_ways false refl h)
-same_kind Frozen Parity h = absurd (both_ways false refl h)
-same_kind Information Frozen h = absurd (both_ways false refl h)
-same_kind Information Information h = refl
-same_kind Information Parity h = absurd (both_ways false refl h)
-same_kind Parity Frozen h = absurd (both_ways false refl h)
-same_kind Parity Information h = absurd (both_ways false refl h)
-same_kind Parity Parity h = refl
-
+-- the built-in plan's kinds
 abbrev pub builtin_kinds : List Kind
 builtin_kinds = set (replicate 1024 Frozen) 31 Information
 
-builtin-block : all_below (λ i. equal_kinds (get_or builtin_kinds i Frozen) (kind_for builtin_request i)) 32 ≡ true
-unfolding all_below any_below count_below sum_below pattern weight equal_kinds
+-- the kinds of its block, by computing them
+builtin-block : map (λ i. get_or builtin_kinds i Frozen) (range_with_len 0 32) ≡ map (kind_for builtin_request) (range_with_len 0 32)
+unfolding any_below count_below sum_below pattern weight
 builtin-block = refl
 
 pub builtin-kinds : (i : ℕ) → get_or builtin_kinds i Frozen ≡ kind_for builtin_request i
 builtin-kinds i =
     elim (cases_lt i 32) [
-      | inl s ↦ same_kind (get_or builtin_kinds i Frozen) (kind_for builtin_request i)
-          (all-at (λ k. equal_kinds (get_or builtin_kinds k Frozen) (kind_for builtin_request k)) 32 builtin-block i s)
+      | inl s ↦ sym (get_or-map-range_with_len (λ k. get_or builtin_kinds k Frozen) 0 32 i i Frozen s (zero-add i))
+          ∙ ap (λ kinds. get_or kinds i Frozen) builtin-block
+          ∙ get_or-map-range_with_len (kind_for builtin_request) 0 32 i i Frozen s (zero-add i)
       | inr s ↦ get_or-set_other (replicate 1024 Frozen) 31 i Information Frozen (λ e. omega arith) ∙ frozen i
           ∙ sym (beyond-frozen more_reliable (barred_for builtin_request) 32 1 0 i s)
     ]

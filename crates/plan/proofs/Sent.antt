@@ -1,8 +1,10 @@
 -- Which places are sent in each mode, and the marks of a loop over the sent bits. Assumes nothing.
 use Rattle.std.proofs.Common.{◌≡◌, ℕ, ◌+◌, ◌-◌, ◌*◌, ◌%◌, ◌^◌, ◌<◌, ◌≤◌, Bool, true, false, cond, ◌||◌, eqb, leb, ◌⊎◌, List, length, get_or, set, replicate, sym, refl, ap, ◌∙◌, subst, inl, inr, mod-eq_of_lt, add-one, arith, length-set}
+use Rattle.std.proofs.Math.Bool.{or-false}
 use Rattle.std.proofs.lemmas.Nat.{pow_pos, mod_below}
 use Rattle.std.proofs.lemmas.List.{get_or-set_same, get_or-set_other, get_or-replicate, get_or_past, length-replicate}
 use Rattle.std.proofs.lemmas.Bool.{cases_Bool, cases_eq, cases_lt, eq-eqb, ne_eqb, leb-true, leb-false, lt-ltb, le-ltb, or_right}
+use Rattle.std.proofs.lemmas.Bool.Decides.{nat_tests}
 use Rattle.base.specs.Counts.{any_below}
 use Rattle.base.proofs.Counts.{any-from, any_none}
 use Rattle.plan.specs.declared.mode.Mode.{Mode}
@@ -46,22 +48,10 @@ mode-bounded n K E =
     ]
 
 pub mode-many : (n K E : ℕ) → mode_of n K E ≡ Repeat → 2 ^ n ≤ E
-mode-many n K E h =
-    elim (cases_Bool (leb (2 ^ n) E)) [
-      | inl s ↦ leb-true (2 ^ n) E s
-      | inr s ↦ absurd (other (leb (16 * K) (7 * E)) (sym (ap (λ b. cond b Repeat (cond (leb (16 * K) (7 * E)) Puncture Shorten)) s) ∙ h))
-    ]
-  where
-    other : (b : Bool) → cond b Puncture Shorten ≡ Repeat → ⊥
-    other true e = let z : ◌≡◌ {A = ℕ} 0 1 = cc in omega arith
-    other false e = let z : ◌≡◌ {A = ℕ} 0 1 = cc in omega arith
+mode-many n K E h = grind (arith, nat_tests)
 
 pub mode-few : (n K E : ℕ) → (mode_of n K E ≡ Repeat → ⊥) → E < 2 ^ n
-mode-few n K E h =
-    elim (cases_Bool (leb (2 ^ n) E)) [
-      | inl s ↦ absurd (h (ap (λ b. cond b Repeat (cond (leb (16 * K) (7 * E)) Puncture Shorten)) s))
-      | inr s ↦ leb-false (2 ^ n) E s
-    ]
+mode-few n K E h = grind (arith, nat_tests)
 
 -- so it is of every plan
 pub plan-bounded : (plan : Plan) → (plan.mode ≡ Repeat) ⊎ (plan.sent ≤ 2 ^ plan.n)
@@ -71,18 +61,14 @@ plan-bounded plan =
 
 pub place_inside : (mode : Mode) (n E k : ℕ) → 5 ≤ n → (mode ≡ Repeat) ⊎ (E ≤ 2 ^ n) → k < E → sent_place mode n E k < 2 ^ n
 place_inside Repeat n E k least b l = order-inside n least (k % 2 ^ n) (mod_below k (2 ^ n) (pow_pos n))
-place_inside Puncture n E k least b l = order-inside n least (k + 2 ^ n - E) (elim b [ inl s ↦ absurd (let z : ◌≡◌ {A = ℕ} 0 1 = cc in omega arith) | inr s ↦ omega arith ])
-place_inside Shorten n E k least b l = order-inside n least k (elim b [ inl s ↦ absurd (let z : ◌≡◌ {A = ℕ} 0 1 = cc in omega arith) | inr s ↦ omega arith ])
+place_inside Puncture n E k least b l = order-inside n least (k + 2 ^ n - E) (elim b [ inl s ↦ cc | inr s ↦ omega arith ])
+place_inside Shorten n E k least b l = order-inside n least k (elim b [ inl s ↦ cc | inr s ↦ omega arith ])
 
 -- nothing beyond the block is sent
 pub sent-inside : (mode : Mode) (n E : ℕ) → 5 ≤ n → (mode ≡ Repeat) ⊎ (E ≤ 2 ^ n) → (i : ℕ) → 2 ^ n ≤ i → sent_by mode n E i ≡ false
 sent-inside mode n E least b i beyond =
     any_none (λ k. eqb (sent_place mode n E k) i) E
     (λ k l. ne_eqb (sent_place mode n E k) i (λ e. omega (arith, place_inside mode n E k least b l)))
-
-or-false : (b : Bool) → (b || false) ≡ b
-or-false true = refl
-or-false false = refl
 
 -- marks after the first k sent bits
 pub record Marked (places : ℕ → ℕ) (k : ℕ) (marks : List Bool) : Type 0 where

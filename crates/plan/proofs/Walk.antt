@@ -1,14 +1,15 @@
 -- The walk down the table of reliability: what holds after every rung, and the choice at its end. Assumes nothing.
-use Rattle.std.proofs.Common.{◌≡◌, ℕ, suc, ◌+◌, ◌-◌, ◌<◌, ◌≤◌, Bool, true, false, cond, not, ◌&&◌, leb, List, length, get_or, set, replicate, sym, ap, ◌∙◌, subst, ap₂, subst₂, inl, inr, arith, length-set}
-use Rattle.std.proofs.lemmas.List.{get_or-set_same, get_or-set_other, get_or-replicate, get_or_past, length-replicate}
+use Rattle.std.proofs.Common.{◌≡◌, ℕ, suc, ◌+◌, ◌-◌, ◌<◌, ◌≤◌, Bool, true, false, cond, not, ◌&&◌, leb, List, [], ◌∷◌, ◌++◌, length, get_or, set, replicate, sym, refl, ap, ◌∙◌, subst, ap₂, subst₂, inl, inr, arith, length-set}
+use Rattle.std.proofs.lemmas.List.{get_or-set_same, get_or-set_other, get_or-replicate, get_or_past, get_or_push, length-replicate, length_push}
+use Rattle.std.proofs.Math.ListN.{get_or-append}
 use Rattle.std.proofs.lemmas.Bool.{cases_eq, cases_lt, lt-ltb}
 use Rattle.base.specs.Counts.{count_below}
 use Rattle.base.proofs.Counts.{count-zero, count-suc, count_most, count_same, count-tail}
 use Rattle.plan.specs.declared.kind.Kind.{Kind}
 use Rattle.plan.specs.declared.kind.Kind.TheVariants.{Frozen}
 use Rattle.plan.specs.Kinds.{kind_by, kind_of_rank, rank_by, open_count}
-use Rattle.plan.specs.Reliability.{more_reliable}
-use Rattle.plan.proofs.Ladder.{rung_at, rung-inside, rung-apart, rung-onto, rung-count, rung-order}
+use Rattle.plan.specs.Reliability.{more_reliable, ladder}
+use Rattle.plan.proofs.Ladder.{ladder-length, rung_at, rung-inside, rung-apart, rung-onto, rung-count, rung-order}
 use Rattle.plan.proofs.Ranks.{barred-frozen, beyond-frozen}
 
 -- the rungs from top on have been walked
@@ -103,17 +104,61 @@ module _ (barred : ℕ → Bool) (K p : ℕ) where
   pub walked-most : (top : ℕ) (kinds : List Kind) (n : ℕ) → Walked barred K p top kinds n → n ≤ 1024
   walked-most top kinds n h = omega (arith, h.counted, count_most (λ i. not (barred i)) 1024)
 
-  -- the same steps as the loop takes them: from top to top - 1, at the position i of that rung
-  pub step-open : (top i : ℕ) (kind : Kind) (kinds : List Kind) (n : ℕ) → 0 < top → top ≤ 1024 → i ≡ rung_at (top - 1)
-      → kind ≡ kind_of_rank K p n → barred i ≡ false → Walked barred K p top kinds n
-      → Walked barred K p (top - 1) (set kinds i kind) (n + 1)
-  step-open top i kind kinds n some most at is free h =
-      let back : top ≡ suc (top - 1) = omega arith in
-      subst₂ (λ x y. Walked barred K p (top - 1) (set kinds x y) (n + 1)) (sym at) (sym is)
-      (walked-open (top - 1) kinds n (omega arith) (ap barred (sym at) ∙ free) (subst (λ t. Walked barred K p t kinds n) back h))
+  -- what is left to walk is the beginning of the ladder, and the rungs past it have been walked
+  pub record Leaves (rest : List ℕ) (kinds : List Kind) (open-so-far : ℕ) : Type 0 where
+    pub few : length rest ≤ 1024
+    pub rungs : (k : ℕ) → k < length rest → get_or rest k 0 ≡ rung_at k
+    pub walked : Walked barred K p (length rest) kinds open-so-far
 
-  pub step-barred : (top i : ℕ) (kinds : List Kind) (n : ℕ) → 0 < top → top ≤ 1024 → i ≡ rung_at (top - 1)
-      → barred i ≡ true → Walked barred K p top kinds n → Walked barred K p (top - 1) kinds n
-  step-barred top i kinds n some most at shut h =
-      let back : top ≡ suc (top - 1) = omega arith in
-      walked-barred (top - 1) kinds n (omega arith) (ap barred (sym at) ∙ shut) (subst (λ t. Walked barred K p t kinds n) back h)
+  pub leaves-ladder : Leaves ladder (replicate 1024 Frozen) 0
+  leaves-ladder = record {
+    few = omega (arith, ladder-length);
+    rungs = λ k l. refl;
+    walked = subst (λ top. Walked barred K p top (replicate 1024 Frozen) 0) (sym ladder-length) walked_none;
+  }
+
+  -- the last of what is left is the rung before those walked
+  last-inside : (rest : List ℕ) (i : ℕ) (kinds : List Kind) (n : ℕ) → Leaves (rest ++ i ∷ []) kinds n → length rest < 1024
+  last-inside rest i kinds n h = omega (arith, h.few, length_push rest i)
+
+  last-rung : (rest : List ℕ) (i : ℕ) (kinds : List Kind) (n : ℕ) → Leaves (rest ++ i ∷ []) kinds n → i ≡ rung_at (length rest)
+  last-rung rest i kinds n h = sym (get_or_push rest i 0 (length rest) refl) ∙ h.rungs (length rest) (omega (arith, length_push rest i))
+
+  pub last-below : (rest : List ℕ) (i : ℕ) (kinds : List Kind) (n : ℕ) → Leaves (rest ++ i ∷ []) kinds n → i < 1024
+  last-below rest i kinds n h = subst (λ x. x < 1024) (sym (last-rung rest i kinds n h)) (rung-inside (length rest) (last-inside rest i kinds n h))
+
+  left-rungs : (rest : List ℕ) (i : ℕ) (kinds : List Kind) (n : ℕ) → Leaves (rest ++ i ∷ []) kinds n
+      → (k : ℕ) → k < length rest → get_or rest k 0 ≡ rung_at k
+  left-rungs rest i kinds n h k l = sym (get_or-append rest (i ∷ []) 0 k l) ∙ h.rungs k (omega (arith, length_push rest i))
+
+  walked-before : (rest : List ℕ) (i : ℕ) (kinds : List Kind) (n : ℕ) → Leaves (rest ++ i ∷ []) kinds n → Walked barred K p (suc (length rest)) kinds n
+  walked-before rest i kinds n h =
+      let size : length (rest ++ i ∷ []) ≡ suc (length rest) = omega (arith, length_push rest i) in
+      subst (λ top. Walked barred K p top kinds n) size h.walked
+
+  pub leaves-open : (rest : List ℕ) (i : ℕ) (kind : Kind) (kinds : List Kind) (n : ℕ) → kind ≡ kind_of_rank K p n → barred i ≡ false
+      → Leaves (rest ++ i ∷ []) kinds n → Leaves rest (set kinds i kind) (n + 1)
+  leaves-open rest i kind kinds n is free h =
+      let inside : length rest < 1024 = last-inside rest i kinds n h in
+      let at : i ≡ rung_at (length rest) = last-rung rest i kinds n h in
+      record {
+        few = omega (arith, inside);
+        rungs = left-rungs rest i kinds n h;
+        walked = subst₂ (λ x y. Walked barred K p (length rest) (set kinds x y) (n + 1)) (sym at) (sym is)
+            (walked-open (length rest) kinds n inside (ap barred (sym at) ∙ free) (walked-before rest i kinds n h));
+      }
+
+  pub leaves-barred : (rest : List ℕ) (i : ℕ) (kinds : List Kind) (n : ℕ) → barred i ≡ true
+      → Leaves (rest ++ i ∷ []) kinds n → Leaves rest kinds n
+  leaves-barred rest i kinds n shut h =
+      let inside : length rest < 1024 = last-inside rest i kinds n h in
+      let at : i ≡ rung_at (length rest) = last-rung rest i kinds n h in
+      record {
+        few = omega (arith, inside);
+        rungs = left-rungs rest i kinds n h;
+        walked = walked-barred (length rest) kinds n inside (ap barred (sym at) ∙ shut) (walked-before rest i kinds n h);
+      }
+
+  -- when none is left, all are walked
+  pub leaves-none : (rest : List ℕ) (kinds : List Kind) (n : ℕ) → length rest ≡ 0 → Leaves rest kinds n → Walked barred K p 0 kinds n
+  leaves-none rest kinds n none h = subst (λ top. Walked barred K p top kinds n) none h.walked

@@ -1,14 +1,15 @@
 // What a plan is made from, worked out from a request within its limits. Assumes nothing.
-ghost use Rattle.std.specs.Prelude.{◌≡◌, ℕ, true, false, slice_index_or};
+ghost use Rattle.std.specs.Prelude.{◌≡◌, ℕ, true, false, IfSome, is_none, slice_index_or};
 ghost use Rattle.plan.specs.declared.kind.Kind.TheVariants.{Frozen};
-ghost use Rattle.plan.specs.Kinds.{open_count};
 ghost use Rattle.plan.specs.Order.{sent_by};
-ghost use Rattle.plan.specs.Requests.{length_for, mode_for, barred_for, kind_for, within_limits};
+ghost use Rattle.plan.specs.Requests.{mode_for, kind_for, within_limits, crowded};
 
-use crate::choice::{Choice, choose};
+use crate::block_size::BlockSize;
+use crate::choice::choose;
 use crate::kind::Kind;
+use crate::matching::Matching;
 use crate::mode::Mode;
-use crate::order::{mode, sent_marks};
+use crate::quota::Quota;
 use crate::reliability::POSITIONS;
 use crate::request::Request;
 
@@ -18,31 +19,24 @@ pub struct Draft {
     // whether a code place is sent
     pub marks: [bool; POSITIONS],
     pub kinds: [Kind; POSITIONS],
-    // how many positions are not barred
-    pub free: usize,
 }
 
-pub fn draft_of(request: &Request) -> Draft
+// The draft; none if too few positions are open.
+pub fn draft_of(request: &Request) -> Option<Draft>
     requires { within_limits request.now ≡ true }
-    ensures mode { result.mode ≡ mode_for request.now }
-    ensures marks { (i : ℕ) → slice_index_or result.marks i false ≡ sent_by result.mode request.now.n request.now.sent i }
-    ensures kinds { (i : ℕ) → slice_index_or result.kinds i Frozen ≡ kind_for request.now i }
-    ensures free { result.free ≡ open_count (barred_for request.now) (length_for request.now) }
+    ensures mode { IfSome result (λ draft. draft.mode ≡ mode_for request.now) }
+    ensures marks { IfSome result (λ draft. (i : ℕ) → slice_index_or draft.marks i false ≡ sent_by draft.mode request.now.n request.now.sent i) }
+    ensures kinds { IfSome result (λ draft. (i : ℕ) → slice_index_or draft.kinds i Frozen ≡ kind_for request.now i) }
+    ensures none { is_none result ≡ crowded request.now }
 {
-    let word = request.payload as usize + request.check_bits as usize;
-    let sent = request.sent as usize;
-    let mode = mode(request.n, word, sent);
-    let marks = sent_marks(mode, request.n, sent);
-    let Choice { kinds, free } = choose(
-        &marks,
-        request.low as usize,
-        word,
-        request.parity as usize,
-    );
-    Draft {
-        mode,
-        marks,
-        kinds,
-        free,
-    }
+    let quota = Quota {
+        word: request.payload + u16::from(request.check_bits),
+        parity: request.parity,
+    };
+    let size = BlockSize { n: request.n };
+    let matching = Matching::new(size, quota.word, request.sent);
+    let marks = matching.marks();
+    let kinds = choose(&marks, request.low as usize, quota)?;
+    let mode = matching.mode;
+    Some(Draft { mode, marks, kinds })
 }

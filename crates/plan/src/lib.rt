@@ -1,13 +1,15 @@
 //! The plan of a code block: its rate matching, and the kind of every position.
 #![tactic(auto)]
 
+mod block_size;
 mod choice;
 mod draft;
 mod kind;
 mod laws;
+mod matching;
 mod mode;
-mod order;
 mod plan;
+mod quota;
 mod reliability;
 mod request;
 #[cfg(test)]

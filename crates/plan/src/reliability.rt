@@ -1,12 +1,10 @@
 // The positions in order of reliability, as a table. Assumes nothing: a computed test checks it against the weights.
-ghost use Rattle.std.specs.Prelude.{◌≡◌, ◌<◌, slice_index};
-ghost use Rattle.plan.specs.Reliability.{ladder};
 
 pub const POSITIONS: usize = 1024;
 
 // All positions below 1,024, least reliable first: sorted by weight, equal weights by position.
 // For a shorter block the positions beyond it are passed over.
-const LADDER: [u16; POSITIONS] = [
+pub const LADDER: [u16; POSITIONS] = [
     0, 1, 2, 4, 8, 16, 3, 32, 5, 6, 9, 64, 10, 17, 12, 18, 128, 33, 20, 34, 7, 24, 36, 65, 11, 256,
     66, 40, 13, 19, 68, 14, 129, 48, 21, 72, 130, 35, 22, 25, 512, 132, 37, 80, 26, 38, 257, 67,
     136, 41, 28, 258, 96, 69, 42, 15, 144, 49, 260, 70, 44, 73, 131, 50, 23, 264, 74, 160, 513,
@@ -62,11 +60,3 @@ const LADDER: [u16; POSITIONS] = [
     1016, 989, 1003, 990, 895, 1005, 1011, 1006, 1013, 959, 1014, 1017, 1018, 991, 1020, 1007,
     1015, 1019, 1021, 1022, 1023,
 ];
-
-// The position at a rung; past the last rung, 0.
-pub fn rung(k: usize) -> usize
-    ensures result { result ≡ slice_index ladder k }
-    ensures inside { result < 1024 }
-{
-    if k < POSITIONS { LADDER[k] as usize } else { 0 }
-}

@@ -2,7 +2,7 @@
 ghost use Rattle.std.specs.Prelude.{◌≡◌};
 ghost use Rattle.plan.specs.Requests.{within_limits};
 
-use crate::order::block_length;
+use crate::block_size::BlockSize;
 
 #[derive(Clone, Copy, PartialEq, Eq, Debug)]
 pub struct Request {
@@ -30,7 +30,7 @@ impl Request {
         (self.n >= 5 && self.n <= 10)
             && (self.payload >= 1 && self.payload <= 512 && self.payload <= self.longest)
             && (self.sent >= 1 && self.sent <= 8192)
-            && self.low as usize <= block_length(self.n)
+            && self.low as usize <= BlockSize { n: self.n }.length()
             && (self.parity == 0 || self.parity == 3)
             && self.check_bits <= 24
     }

@@ -1,10 +1,11 @@
 // Making a plan: the caller's place is written whole, or the request refused. Assumes nothing.
 ghost use Rattle.plan.specs.Plans.{Planned, Made, builtin_request};
 
+use crate::block_size::BlockSize;
 use crate::draft::{Draft, draft_of};
 use crate::kind::Kind;
+use crate::matching::Matching;
 use crate::mode::Mode;
-use crate::order::sent_marks;
 use crate::plan::Plan;
 use crate::reliability::POSITIONS;
 use crate::request::Request;
@@ -17,6 +18,11 @@ impl Plan {
     {
         let mut kinds = [Kind::Frozen; POSITIONS];
         kinds[31] = Kind::Information;
+        let matching = Matching {
+            size: BlockSize { n: 5 },
+            sent: 32,
+            mode: Mode::Repeat,
+        };
         Plan {
             n: 5,
             payload: 1,
@@ -25,7 +31,7 @@ impl Plan {
             low: 0,
             parity: 0,
             mode: Mode::Repeat,
-            marks: sent_marks(Mode::Repeat, 5, 32),
+            marks: matching.marks(),
             kinds,
         }
     }
@@ -37,16 +43,7 @@ impl Plan {
         if !request.within_limits() {
             return Err(Refusal::Limits);
         }
-        let Draft {
-            mode,
-            marks,
-            kinds,
-            free,
-        } = draft_of(request);
-        let word = request.payload as usize + request.check_bits as usize;
-        if free < word + request.parity as usize {
-            return Err(Refusal::Crowded);
-        }
+        let Draft { mode, marks, kinds } = draft_of(request).ok_or(Refusal::Crowded)?;
         *self = Plan {
             n: request.n,
             payload: request.payload,

@@ -2,11 +2,11 @@
 ghost use Rattle.std.specs.Prelude.{◌≡◌, ◌<◌, ◌≤◌};
 ghost use Rattle.plan.specs.Plans.{log_length, block_length, payload_bits, check_bits, word_bits, sent_bits, low_bound, parity_bits, mode_in, kind_at, place_of, sent_at};
 
+use crate::block_size::BlockSize;
 use crate::kind::Kind;
+use crate::matching::Matching;
 use crate::mode::Mode;
-use crate::order::{block_length, sent_place};
 use crate::plan::Plan;
-use crate::reliability::POSITIONS;
 
 impl Plan {
     // n, where the block has 2 ^ n positions.
@@ -22,7 +22,7 @@ impl Plan {
         ensures result { result ≡ block_length self.now }
         ensures limits { (32 ≤ result) × (result ≤ 1024) }
     {
-        block_length(self.n)
+        BlockSize { n: self.n }.length()
     }
 
     // A, the length of the payload.
@@ -83,11 +83,7 @@ impl Plan {
     pub fn kind(&self, i: usize) -> Kind
         ensures { result ≡ kind_at self.now i }
     {
-        if i < POSITIONS {
-            self.kinds[i]
-        } else {
-            Kind::Frozen
-        }
+        self.kinds.get(i).copied().unwrap_or(Kind::Frozen)
     }
 
     // The code place of sent bit k; 0 past the last sent bit.
@@ -96,7 +92,7 @@ impl Plan {
         ensures inside { result < block_length self.now }
     {
         if k < self.sent_bits() {
-            sent_place(self.mode, self.n, self.sent_bits(), k)
+            self.matching().place(k)
         } else {
             0
         }
@@ -106,6 +102,18 @@ impl Plan {
     pub fn is_sent(&self, i: usize) -> bool
         ensures { result ≡ sent_at self.now i }
     {
-        i < POSITIONS && self.marks[i]
+        self.marks.get(i).copied().unwrap_or(false)
+    }
+
+    fn matching(&self) -> Matching
+        ensures size { result.size.n ≡ log_length self.now }
+        ensures sent { result.sent ≡ sent_bits self.now }
+        ensures mode { result.mode ≡ mode_in self.now }
+    {
+        Matching {
+            size: BlockSize { n: self.n },
+            sent: self.sent,
+            mode: self.mode,
+        }
     }
 }

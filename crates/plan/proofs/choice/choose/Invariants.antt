@@ -1,7 +1,7 @@
--- The loop has settled the rungs from k on. Assumes nothing.
+-- The loop has settled the rungs that the iterator has left behind. Assumes nothing.
 use Rattle.plan.specs.Order.{barred_in}
-use Rattle.plan.proofs.Walk.{Walked}
+use Rattle.plan.proofs.Walk.{Leaves}
 use Rattle.plan.proofs.choice.choose.Given as goal
 
-abbrev pub invariant-loop-k : goal.invariant-loop-k
-invariant-loop-k l = Walked (barred_in l.marks l.low) l.word l.parity l.k l.kinds l.free
+abbrev pub invariant-loop-i : goal.invariant-loop-i
+invariant-loop-i l = Leaves (barred_in l.marks l.low) l.quota.word l.quota.parity l.i-iterator.iter.rest.now l.kinds l.open

@@ -2,7 +2,7 @@
 use Rattle.std.proofs.Common.{refl}
 use Rattle.plan.specs.Order.{pattern}
 use Rattle.plan.proofs.Orders.{part-inside}
-use Rattle.plan.proofs.order.part.Goals as goal
+use Rattle.plan.proofs.block_size.part.Goals as goal
 
 pub returns : goal.returns
 unfolding pattern
