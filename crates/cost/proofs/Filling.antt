@@ -3,7 +3,7 @@ use Rattle.std.proofs.Common.{◌≡◌, ℕ, suc, ◌+◌, ◌^◌, ◌<◌, �
 use Rattle.std.proofs.lemmas.Bool.{cases_eq, cases_lt}
 use Rattle.std.proofs.lemmas.List.{get_or_past, get_or_append_left, get_or-append_right, get_or-drop}
 use Rattle.cost.proofs.Silent.{zeros}
-use Rattle.cost.specs.Levels.{Filled, level}
+use Rattle.cost.specs.Levels.{Filled, level, paired}
 
 pub filled_none : (m : ℕ) (block : ℕ → ℤ) (xs : List ℤ) → Filled m 0 block xs xs
 filled_none m block xs = record { filled = λ k lt. absurd (omega arith); below = λ j lt. refl; above = λ j le. refl }
@@ -60,10 +60,6 @@ pub above-small : (m k b : ℕ) (block : ℕ → ℤ) (before after : List ℤ) 
     (j : ℕ) → j < 2 ^ suc m → nat_abs (level after (suc m) j) ≤ b
 above-small m k b block before after le part small j lt =
     subst (λ v. nat_abs v ≤ b) (sym (above-stays m k block before after le part j)) (small j lt)
-
--- the block that each place's own rule makes of the pairs above
-abbrev pub paired : ℕ → (ℕ → ℤ → ℤ → ℤ) → List ℤ → ℕ → ℤ
-paired m rule xs k = rule k (level xs (suc m) k) (level xs (suc m) (2 ^ m + k))
 
 -- one more place of level m
 pub filled-turn : (m k p : ℕ) (rule : ℕ → ℤ → ℤ → ℤ) (before after : List ℤ) (a b v : ℤ) → k ≤ 2 ^ m → p ≡ 2 ^ m + k →

@@ -1,8 +1,8 @@
 -- Rows of bits as paths: a row read, a row with one bit set, a child's row. Assumes nothing.
-use Rattle.std.proofs.Common.{◌≡◌, ℕ, zero, suc, ◌<◌, ◌≤◌, Bool, false, cond, eqb, ltb, ◌≢◌, List, map, length, get_or, set, replicate, sym, refl, ap, ◌∙◌, ⊎_elim, length-set, get_or-set_other, get_or-set_same}
+use Rattle.std.proofs.Common.{◌≡◌, ℕ, zero, suc, ◌<◌, ◌≤◌, Bool, false, cond, eqb, ltb, ◌≢◌, List, map, length, get_or, set, replicate, sym, refl, ap, ◌∙◌, ⊎_elim, length-set, get_or-set_other, get_or-set_same, arith}
 use mathlib.Core.Path.{fun_ext}
-use Rattle.std.proofs.lemmas.List.{get_or-map, map-set, set-set}
-use Rattle.std.proofs.lemmas.Bool.{and_from, and_left, and_right, cases_eq, cond_both, cond-true, cond-false, eq-eqb, le-ltb, lt-ltb, ne_eqb}
+use Rattle.std.proofs.lemmas.List.{get_or-map, get_or_past, map-set, set-set}
+use Rattle.std.proofs.lemmas.Bool.{and_from, and_left, and_right, cases_eq, cases_lt, cond_both, cond-true, cond-false, eq-eqb, le-ltb, lt-ltb, ne_eqb}
 use Rattle.bits.specs.Row.{row_bit, set_bit}
 use Rattle.bits.specs.declared.row.Row.{Row}
 use Rattle.cost.specs.Rows.{path_in, with_path}
@@ -12,9 +12,17 @@ unfolding path_in
 path-read xs row r lt inside =
     sym (cond-true _ _ _ (lt-ltb row 129 lt) ∙ get_or-map row_bit xs row r (λ _. false) inside)
 
-pub path-past : (xs : List Row) (row : ℕ) (r : Row) → 129 ≤ row → ((k : ℕ) → row_bit r k ≡ false) → row_bit r ≡ path_in xs row
+path-past : (xs : List Row) (row : ℕ) (r : Row) → 129 ≤ row → ((k : ℕ) → row_bit r k ≡ false) → row_bit r ≡ path_in xs row
 unfolding path_in
 path-past xs row r le none = fun_ext none ∙ sym (cond-false _ _ _ (le-ltb row 129 le))
+
+-- what is read of 129 rows, with no bit set beyond them
+pub path-or : (xs : List Row) (row : ℕ) (r : Row) → length xs ≡ 129 → ((k : ℕ) → row_bit r k ≡ false) → row_bit (get_or xs row r) ≡ path_in xs row
+path-or xs row r whole none =
+    ⊎_elim
+    (λ lt. path-read xs row r lt (omega arith))
+    (λ le. ap row_bit (get_or_past xs row r (omega arith)) ∙ path-past xs row r le none)
+    (cases_lt row 129)
 
 path-beside : (xs : List Row) (row i : ℕ) (r : Row) → i ≢ row → path_in (set xs row r) i ≡ path_in xs i
 unfolding path_in

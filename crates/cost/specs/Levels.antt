@@ -15,6 +15,10 @@ halved m above u i k = cond (i / 2 ^ m % 2 == 0) (first m above k) (second m abo
 abbrev pub level : List ℤ → ℕ → ℕ → ℤ
 level xs m k = slice_index_or xs (2 ^ m + k) (pos 0)
 
+-- what a rule for each place makes of the pairs at level m + 1
+abbrev pub paired : ℕ → (ℕ → ℤ → ℤ → ℤ) → List ℤ → ℕ → ℤ
+paired m rule xs k = rule k (level xs (suc m) k) (level xs (suc m) (2 ^ m + k))
+
 -- the levels from low up to n are those of position i of the path u
 pub record Levels (n : ℕ) (llr : ℕ → ℤ) (u : ℕ → Bool) (i low : ℕ) (xs : List ℤ) : Type 0 where
   pub top : (k : ℕ) → k < 2 ^ n → level xs n k ≡ llr k

@@ -3,8 +3,10 @@ use bits::Row;
 
 mod access;
 
-// One row more than there are candidates, so that one is always free.
+// One more than there are candidates, so that one is always free.
+const COUNT: usize = 129;
+
 #[derive(Clone, Copy, Drop)]
 pub struct Rows {
-    rows: [Row; 129],
+    rows: [Row; COUNT],
 }

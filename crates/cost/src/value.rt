@@ -1,13 +1,6 @@
 // A soft value in 32 bits: what a bit costs at it, and how two of them become one.
-ghost use Rattle.std.specs.Prelude.{◌≡◌, ◌^◌, ◌<◌, ◌≤◌, unsigned_abs};
+ghost use Rattle.std.specs.Prelude.{◌≡◌, ◌^◌, ◌≤◌, unsigned_abs};
 ghost use Rattle.cost.specs.Values.{contradicts, f, g};
-
-pub(crate) fn power(n: usize) -> usize
-    requires width { n < 64 }
-    ensures { result ≡ 2 ^ n }
-{
-    1 << n
-}
 
 // What a bit costs at its decision value, and what a code bit contradicts in an LLR.
 pub fn contradiction(value: i32, bit: bool) -> u32

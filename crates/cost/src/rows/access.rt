@@ -3,7 +3,7 @@ ghost use Rattle.std.specs.Prelude.{◌≡◌, ℕ, false};
 ghost use Rattle.bits.specs.Row.{row_bit, set_bit};
 ghost use Rattle.cost.specs.Rows.{path_at, with_path};
 
-use super::Rows;
+use super::{COUNT, Rows};
 use bits::Row;
 
 impl Rows {
@@ -11,24 +11,21 @@ impl Rows {
         ensures { (row k : ℕ) → path_at result row k ≡ false }
     {
         let row = Row::zero();
-        Rows { rows: [row; 129] }
+        Rows { rows: [row; COUNT] }
     }
 
     // The path in a row; beyond the last every bit is false.
     pub fn path(&self, row: usize) -> Row
         ensures { row_bit result ≡ path_at self.now row }
     {
-        if row < 129 {
-            return self.rows[row];
-        }
-        Row::zero()
+        self.rows.get(row).copied().unwrap_or(Row::zero())
     }
 
     // Sets bit k of a row; beyond the last nothing is written.
     pub fn set(&mut self, row: usize, k: usize, value: bool)
         ensures { path_at self.new ≡ with_path (path_at self.old) row (set_bit (path_at self.old row) k value) }
     {
-        if row < 129 {
+        if row < COUNT {
             self.rows[row].set(k, value);
         }
     }
@@ -37,7 +34,7 @@ impl Rows {
     pub fn branch(&mut self, parent: usize, child: usize, k: usize, value: bool)
         ensures { path_at self.new ≡ with_path (path_at self.old) child (set_bit (path_at self.old parent) k value) }
     {
-        if child < 129 {
+        if child < COUNT {
             self.rows[child] = self.path(parent);
             self.rows[child].set(k, value);
         }

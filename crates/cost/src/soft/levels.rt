@@ -1,14 +1,13 @@
 // Decision values by level, in scratch: level m from place 2^m on, the soft values themselves at the top.
 // For the decoder and the programs of this repository, which hand in room enough: hence the `requires`.
-ghost use Rattle.std.specs.Prelude.{◌≡◌, ℕ, suc, ◌+◌, ◌*◌, ◌^◌, ◌<◌, ◌≤◌, length, pos, slice_index_or, unsigned_abs};
+ghost use Rattle.std.specs.Prelude.{◌≡◌, ℕ, suc, ◌+◌, ◌*◌, ◌^◌, ◌<◌, ◌≤◌, ℤ, length, pos, slice_index_or, unsigned_abs};
 ghost use Rattle.bits.specs.Row.{row_bit};
 ghost use Rattle.cost.specs.Block.{llr_of, size_of};
-ghost use Rattle.cost.specs.Levels.{Filled, Levels, halved, level};
-ghost use Rattle.cost.specs.Path.{decision, first};
-ghost use Rattle.cost.specs.Values.{g};
+ghost use Rattle.cost.specs.Levels.{Filled, Levels, halved, level, paired};
+ghost use Rattle.cost.specs.Path.{decision};
 
 use super::Soft;
-use crate::value::{first_value, power, second_value};
+use crate::value::{first_value, second_value};
 use bits::Row;
 
 // The two values above place k of level m.
@@ -21,35 +20,22 @@ fn pair_above(m: usize, k: usize, scratch: &[i32]) -> (i32, i32)
     ensures high { result.1 ≡ level scratch.now (suc m) (2 ^ m + k) }
     ensures small { (unsigned_abs result.0 ≤ 2 ^ 29) × (unsigned_abs result.1 ≤ 2 ^ 29) }
 {
-    let half = power(m);
+    let half = 1 << m;
     (scratch[2 * half + k], scratch[3 * half + k])
 }
 
-// Level m of the first half, from the level above.
-fn fill_first(m: usize, scratch: &mut [i32])
+// Level m by a rule: the value at each place, from the pair above it.
+fn fill_by<F: Fn(usize, i32, i32) -> i32>(m: usize, rule: F, scratch: &mut [i32])
     requires size { m < 10 }
     requires room { 4 * 2 ^ m ≤ length scratch.old }
     requires bounded { (k : ℕ) → k < 2 ^ suc m → unsigned_abs (level scratch.old (suc m) k) ≤ 2 ^ 29 }
-    ensures { Filled (2 ^ m) (2 ^ m) (first m (level scratch.old (suc m))) scratch.old scratch.new }
+    requires callable { (k : ℕ) (a b : ℤ) → k < 2 ^ m → unsigned_abs a ≤ 2 ^ 29 → unsigned_abs b ≤ 2 ^ 29 → F.pre rule k a b }
+    ensures { (value : ℕ → ℤ → ℤ → ℤ) → ((k : ℕ) (a b v : ℤ) → k < 2 ^ m → unsigned_abs a ≤ 2 ^ 29 → unsigned_abs b ≤ 2 ^ 29 → F.post rule k a b v → v ≡ value k a b) → Filled (2 ^ m) (2 ^ m) (paired m value scratch.old) scratch.old scratch.new }
 {
-    let half = power(m);
+    let half = 1 << m;
     for k in 0..half {
         let (a, b) = pair_above(m, k, scratch);
-        scratch[half + k] = first_value(a, b);
-    }
-}
-
-// Level m of the second half, from the level above and the code bits of the first half, which stand from base on.
-fn fill_second(m: usize, code: &Row, base: usize, scratch: &mut [i32])
-    requires size { (m < 10) × (base < 1024) }
-    requires room { 4 * 2 ^ m ≤ length scratch.old }
-    requires bounded { (k : ℕ) → k < 2 ^ suc m → unsigned_abs (level scratch.old (suc m) k) ≤ 2 ^ 29 }
-    ensures { Filled (2 ^ m) (2 ^ m) (λ k. g (level scratch.old (suc m) k) (level scratch.old (suc m) (2 ^ m + k)) (row_bit code.now (base + k))) scratch.old scratch.new }
-{
-    let half = power(m);
-    for k in 0..half {
-        let (a, b) = pair_above(m, k, scratch);
-        scratch[half + k] = second_value(a, b, code.get(base + k));
+        scratch[half + k] = rule(k, a, b);
     }
 }
 
@@ -61,14 +47,13 @@ fn fill_level(m: usize, row: &Row, i: usize, scratch: &mut [i32])
     ensures { Filled (2 ^ m) (2 ^ m) (halved m (level scratch.old (suc m)) (row_bit row.now) i) scratch.old scratch.new }
 {
     if (i >> m) % 2 == 0 {
-        fill_first(m, scratch);
+        fill_by(m, |_, a, b| first_value(a, b), scratch);
         return;
     }
-    let block = power(m + 1);
-    let base = i / block * block;
+    let base = i >> (m + 1) << (m + 1);
     let mut code = *row;
     code.transform_block(base, m);
-    fill_second(m, &code, base, scratch);
+    fill_by(m, |k, a, b| second_value(a, b, code.get(base + k)), scratch);
 }
 
 impl Soft {
@@ -77,10 +62,8 @@ impl Soft {
         requires room { 2 * 2 ^ size_of self.now ≤ length scratch.old }
         ensures { Filled (2 ^ size_of self.now) (2 ^ size_of self.now) (llr_of self.now) scratch.old scratch.new }
     {
-        let size = power(self.n);
-        for k in 0..size {
-            scratch[size + k] = self.values[k];
-        }
+        let size = 1 << self.n;
+        scratch[size..2 * size].copy_from_slice(&self.values[..size]);
     }
 
     // The levels below low, from low and those above it.

@@ -20,6 +20,7 @@ impl Soft {
         ensures before { slice_index_or scratch.new 0 (pos 0) ≡ slice_index_or scratch.old 0 (pos 0) }
         ensures rest { (j : ℕ) → 2 * 2 ^ size_of self.now ≤ j → slice_index_or scratch.new j (pos 0) ≡ slice_index_or scratch.old j (pos 0) }
     {
+        // A loop: of a sum over a closure that writes scratch no fact would be known.
         let mut total = 0;
         for i in 0..len {
             total += contradiction(self.decision(row, i, scratch), row.get(i));

@@ -2,12 +2,12 @@ use Rattle.std.proofs.Common.{◌≡◌, length, arith, rules}
 use Rattle.cost.proofs.Paths.{path-branch, path-kept}
 use Rattle.cost.proofs.rows.Rows.branch.Goals as goal
 
-pub returns-then-child-lt129 : goal.returns-then-child-lt129
-returns-then-child-lt129 c =
+pub returns-then-child-lt-COUNT : goal.returns-then-child-lt-COUNT
+returns-then-child-lt-COUNT c =
     let whole : length c.args.self.now.rows ≡ 129 = search rules in
     path-branch c.args.self.now.rows c.args.child c.args.k c.args.value _ c.path.result _ c.set.new.self
-    c.if-child-lt129.true (omega arith) c.path.ensures c.set.ensures
+    c.if-child-lt-COUNT.true (omega arith) c.path.ensures c.set.ensures
 
-pub returns-else-child-lt129 : goal.returns-else-child-lt129
-returns-else-child-lt129 c =
-    path-kept c.args.self.now.rows c.args.child _ c.if-child-lt129.false
+pub returns-else-child-lt-COUNT : goal.returns-else-child-lt-COUNT
+returns-else-child-lt-COUNT c =
+    path-kept c.args.self.now.rows c.args.child _ c.if-child-lt-COUNT.false

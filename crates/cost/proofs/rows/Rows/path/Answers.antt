@@ -1,12 +1,14 @@
-use Rattle.std.proofs.Common.{◌≡◌, length, arith, rules}
-use Rattle.cost.proofs.Paths.{path-read, path-past}
+use Rattle.std.proofs.Common.{◌≡◌, length, ap, ◌∙◌, arith, rules}
+use Rattle.std.specs.Option.{unwrap_or}
+use Rattle.bits.specs.Row.{row_bit}
+use Rattle.cost.proofs.Paths.{path-or}
 use Rattle.cost.proofs.rows.Rows.path.Goals as goal
-
-pub returns-then-row-lt129 : goal.returns-then-row-lt129
-returns-then-row-lt129 c =
-    let whole : length c.args.self.now.rows ≡ 129 = search rules in
-    path-read c.args.self.now.rows c.args.row _ c.if-row-lt129.true (omega arith)
 
 pub returns : goal.returns
 returns c =
-    path-past c.args.self.now.rows c.args.row _ c.if-row-lt129.false c.zero.ensures
+    let whole : length c.args.self.now.rows ≡ 129 = search rules in
+    ap row_bit
+    (c.unwrap_or.ensures
+    ∙ ap (λ found. unwrap_or found c.zero.result) c.copied.ensures
+    ∙ c.get.ensures.lookup.4 (omega arith) c.zero.result)
+    ∙ path-or c.args.self.now.rows c.args.row c.zero.result whole c.zero.ensures
