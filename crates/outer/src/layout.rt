@@ -1,13 +1,16 @@
 // The layout of a spread word for payloads of one length: judging, finishing and reading along its bits. Assumes nothing.
-ghost use Rattle.std.specs.Prelude.{◌≡◌, ℕ, ◌+◌, ◌-◌, ◌≤◌, false, ◌&&◌, ◌++◌, length, nat_le, slice_index_or, slice_set};
+ghost use Rattle.std.specs.Prelude.{◌≡◌, ℕ, ◌+◌, ◌-◌, ◌≤◌, false, ◌&&◌, ◌++◌, length, IfOk, is_ok, nat_le, slice_index_or, slice_set};
 ghost use Rattle.std.specs.Bool.{xor};
 ghost use Rattle.base.specs.Bits.{bit_of};
 ghost use Rattle.crc.specs.Division.{remainder};
+ghost use Rattle.crc.specs.Lengths.{fitting};
 ghost use Rattle.crc.specs.Spread.{width, longest, divisor, order, enters_at, interleaved, deinterleaved, broken};
 ghost use Rattle.outer.specs.Order.{left};
 
 use super::bits::Bits;
-use super::pattern::{longest_of, order_of, rows_of};
+use super::lengths::fits;
+use super::misfit::Misfit;
+use super::pattern::{longest_of, order_of, rows_of, width_of};
 use crc::Spread;
 
 // Bits of the word are named by their index into the payload and the check bits after it.
@@ -19,22 +22,6 @@ pub struct Layout {
     ghost taken: { payload_bits ≤ longest kind },
 }
 
-// Whether check bit j is in the sums.
-fn odd(sums: u32, j: usize) -> bool
-    ensures { result ≡ bit_of sums j }
-{
-    j < 32 && (sums >> j) & 1 == 1
-}
-
-// Writes a bit where the buffer has such an index.
-fn put(bits: &mut [bool], i: usize, value: bool)
-    ensures { bits.new ≡ slice_set bits.old i value }
-{
-    if i < bits.len() {
-        bits[i] = value;
-    }
-}
-
 impl Layout {
     pub fn new(kind: Spread, payload_bits: usize) -> Layout
         requires { payload_bits ≤ longest kind }
@@ -42,6 +29,15 @@ impl Layout {
         ensures payload { result.payload_bits ≡ payload_bits }
     {
         Layout { kind, payload_bits }
+    }
+
+    // The layout of a word of that many bits.
+    pub fn of_word(kind: Spread, payload_bits: usize, word_bits: usize) -> Result<Layout, Misfit>
+        ensures result { is_ok result ≡ fitting (longest kind) (width kind) payload_bits word_bits }
+        ensures ok { IfOk result (λ l. (l.kind ≡ kind) × (l.payload_bits ≡ payload_bits)) }
+    {
+        fits(longest_of(kind), width_of(kind), payload_bits, word_bits)?;
+        Ok(Layout::new(kind, payload_bits))
     }
 
     // Judges a beginning bit by bit: what enters a check bit has come before it.
@@ -136,5 +132,21 @@ impl Layout {
         } else {
             odd(sums, bit - self.payload_bits)
         }
+    }
+}
+
+// Whether check bit j is in the sums.
+fn odd(sums: u32, j: usize) -> bool
+    ensures { result ≡ bit_of sums j }
+{
+    j < 32 && (sums >> j) & 1 == 1
+}
+
+// Writes a bit where the buffer has such an index.
+fn put(bits: &mut [bool], i: usize, value: bool)
+    ensures { bits.new ≡ slice_set bits.old i value }
+{
+    if i < bits.len() {
+        bits[i] = value;
     }
 }

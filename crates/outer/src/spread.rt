@@ -6,7 +6,6 @@ ghost use Rattle.std.proofs.Common.{rules};
 
 use super::check::{Finish, Judge};
 use super::layout::Layout;
-use super::lengths::fits;
 use super::misfit::Misfit;
 use super::pattern::{longest_of, width_of};
 use crc::Spread;
@@ -43,8 +42,7 @@ impl Judge for Spread {
     }
 
     fn accepts(&self, a: usize, word: &[bool]) -> bool {
-        fits(longest_of(*self), width_of(*self), a, word.len()).is_ok()
-            && !Layout::new(*self, a).breaks(word)
+        Layout::of_word(*self, a, word.len()).is_ok_and(|layout| !layout.breaks(word))
     }
 
     fn watches(&self) -> bool {
@@ -56,13 +54,7 @@ impl Judge for Spread {
     }
 
     fn read(&self, word: &[bool], payload: &mut [bool]) -> Result<(), Misfit> {
-        fits(
-            longest_of(*self),
-            width_of(*self),
-            payload.len(),
-            word.len(),
-        )?;
-        Layout::new(*self, payload.len()).deinterleave(word, payload);
+        Layout::of_word(*self, payload.len(), word.len())?.deinterleave(word, payload);
         Ok(())
     }
 }
@@ -77,13 +69,7 @@ impl Finish for Spread {
     ghost accepted_finished = { λ c a w h. sound-interleaved c a w h };
 
     fn finish(&self, payload: &[bool], word: &mut [bool]) -> Result<(), Misfit> {
-        fits(
-            longest_of(*self),
-            width_of(*self),
-            payload.len(),
-            word.len(),
-        )?;
-        Layout::new(*self, payload.len()).interleave(payload, word);
+        Layout::of_word(*self, payload.len(), word.len())?.interleave(payload, word);
         Ok(())
     }
 }
