@@ -8,7 +8,7 @@ use Rattle.crc.specs.Spread.{width, longest, rows, enters, placed}
 use Rattle.crc.specs.declared.spread.Spread.{Spread}
 use Rattle.crc.specs.declared.spread.Spread.TheVariants.{Four, TwentyFour}
 use Rattle.crc.proofs.Occurrences.{inside, inside-at}
-use Rattle.crc.proofs.Tables.{low_bits, masks, places, rows-masks, placed-places, places-long, places-inside}
+use Rattle.crc.proofs.Tables.{low_bits, masks, places, rows-masks, placed-places}
 
 bit_of-first : (n : ℕ) → bit_of n 0 ≡ eqb (n % 2) 1
 unfolding bit_of
@@ -53,10 +53,6 @@ mask-row kind c k j e h =
     ∙ ap (λ r. get_or r j false) (sym (get_or-map (low_bits (width c)) (masks c) k 0 [] l))
     ∙ ap (λ rs. get_or (get_or rs k []) j false) (sym (rows-masks c) ∙ ap rows (sym e))
 
-pub place-bit : (kind c : Spread) (k : ℕ) → kind ≡ c → get_or (places c) k 0 ≡ get_or (placed (rows kind) (width kind)) k 0
-place-bit kind c k e = ap (λ ks. get_or ks k 0) (sym (placed-places c) ∙ ap (λ d. placed (rows d) (width d)) (sym e))
-
-pub place_inside : (kind c : Spread) (k : ℕ) → kind ≡ c → k < longest kind + width kind → get_or (places c) k 0 < longest kind + width kind
-place_inside kind c k e h =
-    let n : longest kind + width kind ≡ longest c + width c = ap (λ d. longest d + width d) e in
-    omega (arith, inside-at (longest c + width c) (places c) k (places-inside c) (omega (arith, places-long c)))
+-- the table is the order of the longest word
+pub order-placed : (kind c : Spread) → kind ≡ c → places c ≡ placed (rows kind) (width kind)
+order-placed kind c e = sym (ap (λ d. placed (rows d) (width d)) e ∙ placed-places c)

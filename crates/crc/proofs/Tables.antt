@@ -1,5 +1,5 @@
 -- The tables of the code, and by computing that they are the definition's rows and order. Assumes nothing.
-use Rattle.std.proofs.Common.{◌≡◌, ℕ, zero, suc, ◌+◌, ◌/◌, ◌%◌, ◌<◌, Bool, true, ◌&&◌, eqb, ltb, List, [], ◌∷◌, map, length, refl, ap, ◌∙◌}
+use Rattle.std.proofs.Common.{◌≡◌, ℕ, zero, suc, ◌+◌, ◌/◌, ◌%◌, ◌<◌, ◌≤◌, Bool, true, ◌&&◌, eqb, ltb, List, [], ◌∷◌, map, length, refl, ap, ◌∙◌, arith}
 use mathlib.Core.Bool.{xor}
 use Rattle.base.specs.Counts.{any_below, all_below}
 use Rattle.std.proofs.lemmas.Bool.{eqb-true}
@@ -76,6 +76,11 @@ pub places-long : (c : Spread) → length (places c) ≡ longest c + width c
 unfolding places
 places-long Four = refl
 places-long TwentyFour = refl
+
+-- no word is longer than the longest of 24 check bits
+pub word-bounded : (c : Spread) → longest c + width c ≤ 164
+word-bounded Four = omega arith
+word-bounded TwentyFour = omega arith
 
 pub places-inside : (c : Spread) → inside (longest c + width c) (places c) ≡ true
 unfolding places inside

@@ -1,3 +1,4 @@
 pub mod Trailing
+pub mod Order
 pub mod Examples
 pub mod Followed

@@ -7,8 +7,8 @@ fn add_onto(bits: &mut [bool], divisor: &[bool])
     requires room { length divisor.now ≤ length bits.old }
     ensures { bits.new ≡ added divisor.now bits.old }
 {
-    for k in 0..divisor.len() {
-        bits[k] ^= divisor[k];
+    for (k, d) in divisor.iter().enumerate() {
+        bits[k] ^= *d;
     }
 }
 

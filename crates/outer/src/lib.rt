@@ -1,15 +1,16 @@
 //! The outer checks of a payload: what a check is, and the kinds none, trailing and spread.
 #![tactic(auto)]
 
+mod bits;
 mod check;
 mod division;
 mod examples;
+mod layout;
 mod lengths;
 mod misfit;
 mod none;
 mod pattern;
 mod spread;
-mod sums;
 mod trailing;
 
 pub use check::{Finish, Judge};

@@ -1,6 +1,6 @@
 // The sizes of the spread checks, and their order and rows as tables. Assumes nothing.
 // They are computed from the divisors, and proved to be those of the definition.
-ghost use Rattle.std.specs.Prelude.{◌≡◌, ℕ, ◌+◌, ◌<◌, slice_index};
+ghost use Rattle.std.specs.Prelude.{◌≡◌, ℕ, ◌<◌, length, slice_index_or};
 ghost use Rattle.base.specs.Bits.{bit_of};
 ghost use Rattle.crc.specs.Spread.{width, longest, rows, enters, placed};
 
@@ -21,7 +21,7 @@ const ORDER_24: [u8; 164] = [
 ];
 
 // which check bits each bit of the longest payload enters: check bit j at 2^j
-const ROWS_4: [u8; 8] = [5, 10, 1, 2, 4, 8, 5, 10];
+const ROWS_4: [u32; 8] = [5, 10, 1, 2, 4, 8, 5, 10];
 
 const ROWS_24: [u32; 140] = [
     0x6a1ad5, 0xd435aa, 0x7971cf, 0xf2e39e, 0x34dda7, 0x69bb4e, 0xd3769c, 0x77f7a3, 0xefef46,
@@ -60,23 +60,23 @@ pub fn longest_of(kind: Spread) -> usize
     }
 }
 
-pub fn bit_at(kind: Spread, place: usize) -> usize
-    requires place { place < longest kind + width kind }
-    ensures value { result ≡ slice_index (placed (rows kind) (width kind)) place }
-    ensures within { result < longest kind + width kind }
+// The order of the longest word.
+pub fn order_of(kind: Spread) -> &'static [u8]
+    ensures { result.now ≡ placed (rows kind) (width kind) }
 {
     match kind {
-        Spread::Four => ORDER_4[place] as usize,
-        Spread::TwentyFour => ORDER_24[place] as usize,
+        Spread::Four => &ORDER_4,
+        Spread::TwentyFour => &ORDER_24,
     }
 }
 
-pub fn row(kind: Spread, bit: usize) -> u32
-    requires payload { bit < longest kind }
-    ensures { (j : ℕ) → bit_of result j ≡ enters (rows kind) bit j }
+// A row for each bit of the longest payload.
+pub fn rows_of(kind: Spread) -> &'static [u32]
+    ensures size { length result.now ≡ longest kind }
+    ensures bits { (i j : ℕ) → i < longest kind → bit_of (slice_index_or result.now i 0) j ≡ enters (rows kind) i j }
 {
     match kind {
-        Spread::Four => ROWS_4[bit] as u32,
-        Spread::TwentyFour => ROWS_24[bit],
+        Spread::Four => &ROWS_4,
+        Spread::TwentyFour => &ROWS_24,
     }
 }

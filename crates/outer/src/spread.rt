@@ -1,81 +1,14 @@
 // The spread check: the check bits stand among the payload bits. Assumes nothing.
-ghost use Rattle.std.specs.Prelude.{◌≡◌, ◌+◌, ◌≤◌, true, length, slice_set};
+ghost use Rattle.std.specs.Prelude.{true};
 ghost use Rattle.crc.specs.Spread.{width, longest, interleaved, deinterleaved, broken, sound};
 ghost use Rattle.crc.proofs.Interleaving.{sound-parts, sound-hopeful, length-deinterleaved, interleaved-sound, interleaved-reads-back, sound-interleaved};
 ghost use Rattle.std.proofs.Common.{rules};
 
 use super::check::{Finish, Judge};
-use super::lengths::fits;
+use super::layout::Layout;
 use super::misfit::Misfit;
-use super::pattern::{bit_at, longest_of, width_of};
-use super::sums::{check_bits, disagrees, entered, value_of};
+use super::pattern::{longest_of, width_of};
 use crc::Spread;
-
-// Writes a bit where the buffer has such an index.
-fn put(bits: &mut [bool], i: usize, value: bool)
-    ensures { bits.new ≡ slice_set bits.old i value }
-{
-    if i < bits.len() {
-        bits[i] = value;
-    }
-}
-
-// Judges a beginning bit by bit: what enters a check bit has come before it.
-fn breaks(kind: Spread, a: usize, beginning: &[bool]) -> bool
-    requires longest { a ≤ longest kind }
-    ensures { result ≡ broken kind a beginning.now }
-{
-    let struck = longest_of(kind) - a;
-    let mut sums = 0;
-    let mut place = 0;
-    for q in 0..longest_of(kind) + width_of(kind) {
-        let bit = bit_at(kind, q);
-        if bit >= struck {
-            if place >= beginning.len() {
-                return false;
-            }
-            if disagrees(kind, sums, bit, beginning[place]) {
-                return true;
-            }
-            sums = entered(kind, sums, bit, beginning[place]);
-            place += 1;
-        }
-    }
-    false
-}
-
-fn interleave(kind: Spread, payload: &[bool], word: &mut [bool])
-    requires longest { length payload.now ≤ longest kind }
-    requires room { length word.old ≡ length payload.now + width kind }
-    ensures { word.new ≡ interleaved kind payload.now }
-{
-    let struck = longest_of(kind) - payload.len();
-    let sums = check_bits(kind, payload);
-    let mut place = 0;
-    for q in 0..longest_of(kind) + width_of(kind) {
-        let bit = bit_at(kind, q);
-        if bit >= struck {
-            put(word, place, value_of(kind, bit, payload, sums));
-            place += 1;
-        }
-    }
-}
-
-fn deinterleave(kind: Spread, word: &[bool], payload: &mut [bool])
-    requires longest { length payload.old ≤ longest kind }
-    requires room { length word.now ≡ length payload.old + width kind }
-    ensures { payload.new ≡ deinterleaved kind (length payload.old) word.now }
-{
-    let struck = longest_of(kind) - payload.len();
-    let mut place = 0;
-    for q in 0..longest_of(kind) + width_of(kind) {
-        let bit = bit_at(kind, q);
-        if bit >= struck {
-            put(payload, bit - struck, word[place]);
-            place += 1;
-        }
-    }
-}
 
 impl Judge for Spread {
     ghost bits = { width };
@@ -109,7 +42,7 @@ impl Judge for Spread {
     }
 
     fn accepts(&self, a: usize, word: &[bool]) -> bool {
-        fits(longest_of(*self), width_of(*self), a, word.len()).is_ok() && !breaks(*self, a, word)
+        Layout::of_word(*self, a, word.len()).is_ok_and(|layout| !layout.breaks(word))
     }
 
     fn watches(&self) -> bool {
@@ -117,17 +50,11 @@ impl Judge for Spread {
     }
 
     fn is_hopeless(&self, a: usize, beginning: &[bool]) -> bool {
-        a <= longest_of(*self) && breaks(*self, a, beginning)
+        a <= longest_of(*self) && Layout::new(*self, a).breaks(beginning)
     }
 
     fn read(&self, word: &[bool], payload: &mut [bool]) -> Result<(), Misfit> {
-        fits(
-            longest_of(*self),
-            width_of(*self),
-            payload.len(),
-            word.len(),
-        )?;
-        deinterleave(*self, word, payload);
+        Layout::of_word(*self, payload.len(), word.len())?.deinterleave(word, payload);
         Ok(())
     }
 }
@@ -142,13 +69,7 @@ impl Finish for Spread {
     ghost accepted_finished = { λ c a w h. sound-interleaved c a w h };
 
     fn finish(&self, payload: &[bool], word: &mut [bool]) -> Result<(), Misfit> {
-        fits(
-            longest_of(*self),
-            width_of(*self),
-            payload.len(),
-            word.len(),
-        )?;
-        interleave(*self, payload, word);
+        Layout::of_word(*self, payload.len(), word.len())?.interleave(payload, word);
         Ok(())
     }
 }
