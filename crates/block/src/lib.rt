@@ -14,7 +14,7 @@ pub use code::{CheckCode, StoreCode};
 pub use due::Due;
 pub use field::Field;
 pub use laws::{granted_files_are_laid_out, laid_out_files_are_granted};
-pub use numbers::{PlanNumbers, SearchNumbers};
+pub use numbers::{Numbers, PlanNumbers, SearchNumbers};
 pub use reader::{Block, Fields, examine, field_at};
 pub use receives::received;
 pub use unlisted::Unlisted;

@@ -2,18 +2,15 @@
 use Rattle.std.proofs.Common.{◌≡◌, ℕ, zero, suc, ◌<◌, Bool, cond, eqb, List, length, ℤ, pos, Some, None, Ok, Err, Result, sym, refl, ap, ◌∙◌, subst, arith}
 use Rattle.std.proofs.lemmas.Bool.Decides.{nat_tests}
 use Rattle.base.specs.declared.refusal.Refusal.{Refusal}
-use Rattle.block.specs.Fields.{field_body, received_at, request_of}
+use Rattle.block.specs.Fields.{received_at, request_of}
 use Rattle.code.specs.First.{first_below}
 use Rattle.code.specs.Recovery.{total_below, value_at, share_of, unsent_soft, soft_at, beyond, bad_value, recovery_verdict, Recovers}
 use Rattle.plan.specs.Plans.{Made, Planned, block_length, sent_bits, place_of, sent_at, mode_in}
 use Rattle.plan.specs.declared.plan.Plan.{Plan}
 use Rattle.plan.specs.declared.request.Request.{Request}
-use Rattle.block.specs.File.{file_fault, sent_of, values_at}
-use Rattle.block.specs.Reads.{FieldIs, FileIs}
+use Rattle.block.specs.File.{file_fault}
+use Rattle.block.specs.Reads.{FileIs}
 use Rattle.block.specs.declared.reader.Block.{Block}
-use Rattle.block.specs.declared.due.Due.TheVariants as due
-use Rattle.block.specs.declared.field.Field.{Field}
-use Rattle.block.specs.declared.field.Field.TheVariants as field
 use Rattle.inspect.specs.Softs.{PlanOf, values_verdict, values_of, SoftValues, Softens}
 
 -- tests that agree below n find the same first number
@@ -56,12 +53,6 @@ softens plan body values before after (Ok done) sent whole read is = (
   λ i l. is.1 i l ∙ soft-same plan (value_at values) (received_at body) read i,
 )
 softens plan body values before after (Err e) sent whole read is = sym (verdict-same plan body values (length before) sent whole read) ∙ is.0
-
--- the body of a values field that was read
-pub values-body : (input : List ℕ) (f : Field) → FieldIs input values_at (due.Values (sent_of input)) f → field_body f ≡ values_of input
-values-body input (field.Plan body place) h = absurd h
-values-body input (field.Search body place) h = absurd h
-values-body input (field.Values body place) h = h.0
 
 -- a plan that was made of the numbers in a file is the plan of the file
 pub plan-of : {X : Type 0} (input : List ℕ) (b : Block) (before plan : Plan) (q : Request) (r : Result X Refusal) (x : X)

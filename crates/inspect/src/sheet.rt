@@ -81,7 +81,7 @@ fn counted_soft(input: &[u8]) -> Option<SoftCount>
     if field_at(input, 12, Due::Search).is_err() {
         return None;
     }
-    let body = field.body();
+    let body = field.body;
     let granted = usize::from(u16::from_be_bytes([body[3], body[4]]));
     Some(SoftCount {
         present: input.len().saturating_sub(HEADERS) / 2,

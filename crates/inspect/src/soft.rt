@@ -79,7 +79,7 @@ pub fn soft_sheet(input: &[u8]) -> SoftSheet
     if let Err(fault) = plan.make(&block.plan.request()) {
         return SoftSheet::Untold { fault };
     }
-    match soft_places(&plan, block.fields.values.body()) {
+    match soft_places(&plan, block.fields.values.body) {
         Ok(llrs) => SoftSheet::Places { plan, llrs },
         Err(fault) => SoftSheet::BadValue { fault },
     }

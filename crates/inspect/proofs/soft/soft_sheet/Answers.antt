@@ -1,6 +1,5 @@
 -- The values are those of the field that was read. Assumes nothing.
-use Rattle.std.proofs.Common.{◌∙◌}
-use Rattle.inspect.proofs.Places.{plan-of, softs-of, values-body, verdict-of}
+use Rattle.inspect.proofs.Places.{plan-of, softs-of, verdict-of}
 use Rattle.inspect.proofs.soft.soft_sheet.Goals as goal
 
 pub returns-in-Ok-soft_places : goal.returns-in-Ok-soft_places
@@ -8,8 +7,8 @@ returns-in-Ok-soft_places c =
     let file = c.in-Ok.ensures in (
       plan-of c.args.input.now c.in-Ok.block c.builtin-plan.result c.make.new.self c.request.result c.make.result _
           file c.in_default.is c.make.ensures c.request.ensures,
-      softs-of c.make.new.self c.args.input.now c.body.result.now c.in-Ok-soft_places.llrs
-          (c.body.ensures ∙ values-body c.args.input.now c.in-Ok.block.fields.values file.1.values-field)
+      softs-of c.make.new.self c.args.input.now c.in-Ok.block.fields.values.body.now c.in-Ok-soft_places.llrs
+          file.1.values-field.body
           c.in-Ok-soft_places.ensures.1,
     )
 
@@ -20,7 +19,7 @@ returns-in-Err-soft_places c =
       plan = c.make.new.self;
       own = plan-of c.args.input.now c.in-Ok.block c.builtin-plan.result c.make.new.self c.request.result c.make.result _
           file c.in_default.is c.make.ensures c.request.ensures;
-      refused = verdict-of c.make.new.self c.args.input.now c.body.result.now c.in-Err-soft_places.fault
-          (c.body.ensures ∙ values-body c.args.input.now c.in-Ok.block.fields.values file.1.values-field)
+      refused = verdict-of c.make.new.self c.args.input.now c.in-Ok.block.fields.values.body.now c.in-Err-soft_places.fault
+          file.1.values-field.body
           c.in-Err-soft_places.ensures;
     }
