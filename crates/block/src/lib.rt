@@ -15,6 +15,6 @@ pub use due::Due;
 pub use field::Field;
 pub use laws::{granted_files_are_laid_out, laid_out_files_are_granted};
 pub use numbers::{Numbers, PlanNumbers, SearchNumbers};
-pub use reader::{Block, Fields, examine, field_at};
+pub use reader::{Block, Fields, examine, field_at, numbers_at};
 pub use receives::received;
 pub use unlisted::Unlisted;

@@ -59,7 +59,7 @@ pub fn examine(input: &[u8]) -> Result<Block<'_>, Refusal>
 }
 
 // The field that is due at an offset with its numbers, or what is wrong with it.
-fn numbers_at<N: Numbers>(input: &[u8], at: usize) -> Result<(Field<'_>, N), Refusal>
+pub fn numbers_at<N: Numbers>(input: &[u8], at: usize) -> Result<(Field<'_>, N), Refusal>
     ensures { NumbersAt N.DUE N.holds input.now at result }
 {
     let field = framed(input, at, N::DUE)?;
