@@ -7,8 +7,6 @@ use Rattle.block.specs.declared.due.Due.TheVariants.{Plan, Search, Values}
 use Rattle.block.specs.declared.numbers.PlanNumbers.{PlanNumbers}
 use Rattle.block.specs.declared.numbers.SearchNumbers.{SearchNumbers}
 use Rattle.plan.specs.declared.request.Request.{Request}
-use Rattle.block.specs.declared.field.Field.{Field}
-use Rattle.block.specs.declared.field.Field.TheVariants as field
 use Rattle.block.specs.Bytes.{wide, long}
 use Rattle.block.specs.Codes.{check_of, store_of, check_bits, longest_payload}
 
@@ -48,24 +46,10 @@ pub record SearchHolds (body : List ℕ) (s : SearchNumbers) : Type 0 where
   pub steps : s.steps ≡ long body 4
   pub words : s.words ≡ slice_index body 8
 
--- what reading a body answers: its numbers, or nothing where it is not sound
-abbrev pub PlanRead : List ℕ → Option PlanNumbers → Type 0
-PlanRead body (Some p) = (sound Plan body ≡ true) × PlanHolds body p
-PlanRead body None = sound Plan body ≡ false
-
-abbrev pub SearchRead : List ℕ → Option SearchNumbers → Type 0
-SearchRead body (Some s) = (sound Search body ≡ true) × SearchHolds body s
-SearchRead body None = sound Search body ≡ false
-
-abbrev pub field_body : Field → List ℕ
-field_body (field.Plan body at) = body.now
-field_body (field.Search body at) = body.now
-field_body (field.Values body at) = body.now
-
-abbrev pub field_at : Field → ℕ
-field_at (field.Plan body at) = at
-field_at (field.Search body at) = at
-field_at (field.Values body at) = at
+-- what reading the body of a field answers: its numbers, or nothing where it is not sound
+abbrev pub NumbersRead : {N : Type 0} → Due → (List ℕ → N → Type 0) → List ℕ → Option N → Type 0
+NumbersRead due Holds body (Some n) = (sound due body ≡ true) × Holds body n
+NumbersRead due Holds body None = sound due body ≡ false
 
 -- the plan that the numbers of a plan field ask for
 abbrev pub request_of : PlanNumbers → Request

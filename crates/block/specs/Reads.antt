@@ -1,45 +1,38 @@
 -- What the reader answers: the field or the whole file as parts of the input, or the first fault. Assumes nothing.
-use Rattle.std.specs.Prelude.{◌≡◌, ℕ, List, Some, None, Ok, Err, Result}
+use Rattle.std.specs.Prelude.{◌≡◌, ℕ, if◌then◌else◌, List, length, Some, None, Ok, Err, Result}
 use Rattle.base.specs.declared.refusal.Refusal.{Refusal}
+use Rattle.base.specs.declared.refusal.Refusal.TheVariants.{Form}
 use Rattle.block.specs.declared.due.Due.{Due}
 use Rattle.block.specs.declared.due.Due.TheVariants as due
 use Rattle.block.specs.declared.field.Field.{Field}
-use Rattle.block.specs.declared.field.Field.TheVariants as field
 use Rattle.block.specs.declared.reader.Block.{Block}
 use Rattle.block.specs.declared.numbers.PlanNumbers.{PlanNumbers}
 use Rattle.block.specs.declared.numbers.SearchNumbers.{SearchNumbers}
-use Rattle.block.specs.Fields.{PlanHolds, SearchHolds}
+use Rattle.block.specs.Fields.{length_of, listed, PlanHolds, SearchHolds}
 use Rattle.block.specs.File.{body_at, field_fault, file_fault, plan_at, search_at, values_at, sent_of}
 
 -- the field that is due, with its body as a part of the input and its place
-abbrev pub FieldIs : List ℕ → ℕ → Due → Field → Type 0
-FieldIs input at due.Plan (field.Plan body place) = (body.now ≡ body_at input at due.Plan) × (place ≡ at)
-FieldIs input at due.Plan (field.Search body place) = ⊥
-FieldIs input at due.Plan (field.Values body place) = ⊥
-FieldIs input at due.Search (field.Plan body place) = ⊥
-FieldIs input at due.Search (field.Search body place) = (body.now ≡ body_at input at due.Search) × (place ≡ at)
-FieldIs input at due.Search (field.Values body place) = ⊥
-FieldIs input at (due.Values sent) (field.Plan body place) = ⊥
-FieldIs input at (due.Values sent) (field.Search body place) = ⊥
-FieldIs input at (due.Values sent) (field.Values body place) =
-    (body.now ≡ body_at input at (due.Values sent)) × (place ≡ at)
+pub record FieldIs (input : List ℕ) (offset : ℕ) (wanted : Due) (f : Field) : Type 0 where
+  pub due : f.due ≡ wanted
+  pub body : f.body.now ≡ body_at input offset wanted
+  pub at : f.at ≡ offset
+
+-- the field that is due, of which only the codes may be wrong; or the first fault
+abbrev pub Framed : List ℕ → ℕ → Due → Result Field Refusal → Type 0
+Framed input at due (Ok f) =
+    FieldIs input at due f × (length (body_at input at due) ≡ length_of due)
+    × (field_fault input at due ≡ (if listed due (body_at input at due) then None else Some (Form at)))
+Framed input at due (Err e) = field_fault input at due ≡ Some e
 
 abbrev pub FieldRead : List ℕ → ℕ → Due → Result Field Refusal → Type 0
 FieldRead input at due (Ok f) = (field_fault input at due ≡ None) × FieldIs input at due f
 FieldRead input at due (Err e) = field_fault input at due ≡ Some e
 
--- the first two fields, each with its numbers
-abbrev pub PlanPart : List ℕ → Result (Field × PlanNumbers) Refusal → Type 0
-PlanPart input (Ok part) =
-    (field_fault input plan_at due.Plan ≡ None) × FieldIs input plan_at due.Plan part.0
-    × PlanHolds (body_at input plan_at due.Plan) part.1
-PlanPart input (Err e) = field_fault input plan_at due.Plan ≡ Some e
-
-abbrev pub SearchPart : List ℕ → Result (Field × SearchNumbers) Refusal → Type 0
-SearchPart input (Ok part) =
-    (field_fault input search_at due.Search ≡ None) × FieldIs input search_at due.Search part.0
-    × SearchHolds (body_at input search_at due.Search) part.1
-SearchPart input (Err e) = field_fault input search_at due.Search ≡ Some e
+-- the field that is due with its numbers, or the first fault
+abbrev pub NumbersAt : {N : Type 0} → Due → (List ℕ → N → Type 0) → List ℕ → ℕ → Result (Field × N) Refusal → Type 0
+NumbersAt due Holds input at (Ok part) =
+    (field_fault input at due ≡ None) × FieldIs input at due part.0 × Holds (body_at input at due) part.1
+NumbersAt due Holds input at (Err e) = field_fault input at due ≡ Some e
 
 pub record FileIs (input : List ℕ) (b : Block) : Type 0 where
   pub plan-field : FieldIs input plan_at due.Plan b.fields.plan

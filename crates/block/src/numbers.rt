@@ -1,9 +1,27 @@
 // The numbers that the fields of a block file hold, read out of their bodies. Assumes nothing.
-ghost use Rattle.std.specs.Prelude.{◌≡◌};
-ghost use Rattle.block.specs.Fields.{PlanRead, SearchRead, request_of};
+ghost use Rattle.std.specs.Prelude.{◌≡◌, ℕ, List};
+ghost use Rattle.block.specs.Fields.{NumbersRead, PlanHolds, SearchHolds, request_of};
+ghost use Rattle.block.specs.declared.due.Due.{Due};
+ghost use Rattle.block.specs.declared.due.Due.TheVariants.{Plan, Search};
 
 use crate::code::{CheckCode, StoreCode};
+use crate::due::Due;
 use plan::Request;
+
+// Numbers that a field holds.
+pub trait Numbers: Copy {
+    ghost DUE: { Due };
+
+    ghost holds: { (body : List ℕ) → Self → Type 0 };
+
+    // The field that holds them.
+    const DUE: Due;
+
+    // The numbers in a body; none where its length is not the field's or a code in it is not listed. No TryFrom:
+    // an error would say no more than that, and the refusal needs the offset, which the caller has.
+    fn read(body: &[u8]) -> Option<Self>
+        ensures { NumbersRead DUE holds body.now result };
+}
 
 // What the plan field asks for.
 #[derive(Clone, Copy, PartialEq, Eq, Debug)]
@@ -26,11 +44,14 @@ pub struct SearchNumbers {
     pub words: u8,
 }
 
-impl PlanNumbers {
-    // The numbers in a body of nine bytes; none where its length is another or its code is not listed.
-    pub fn read(body: &[u8]) -> Option<PlanNumbers>
-        ensures { PlanRead body.now result }
-    {
+impl Numbers for PlanNumbers {
+    ghost DUE = { Plan };
+
+    ghost holds = { PlanHolds };
+
+    const DUE: Due = Due::Plan;
+
+    fn read(body: &[u8]) -> Option<PlanNumbers> {
         let &[n, a1, a0, e1, e0, t1, t0, parity, code] = body else {
             return None;
         };
@@ -47,7 +68,7 @@ impl PlanNumbers {
 }
 
 impl PlanNumbers {
-    // The plan that these numbers ask for.
+    // The plan that these numbers ask for. No From: `plan.make(&numbers.request())` says what is made.
     pub fn request(&self) -> Request
         ensures { result ≡ request_of self.now }
     {
@@ -63,12 +84,15 @@ impl PlanNumbers {
     }
 }
 
-impl SearchNumbers {
-    // The numbers in a body of nine bytes; none where its length is another, its store is not listed
-    // or no word is wanted.
-    pub fn read(body: &[u8]) -> Option<SearchNumbers>
-        ensures { SearchRead body.now result }
-    {
+impl Numbers for SearchNumbers {
+    ghost DUE = { Search };
+
+    ghost holds = { SearchHolds };
+
+    const DUE: Due = Due::Search;
+
+    // No words wanted count as a code that is not listed.
+    fn read(body: &[u8]) -> Option<SearchNumbers> {
         let &[capacity, code, c1, c0, t3, t2, t1, t0, words] = body else {
             return None;
         };

@@ -2,11 +2,11 @@
 ghost use Rattle.std.specs.Prelude.{◌≡◌, ◌+◌, ◌≤◌, length};
 ghost use Rattle.block.specs.Bytes.{wide};
 ghost use Rattle.block.specs.Fields.{sound};
-ghost use Rattle.block.specs.Reads.{FieldRead, PlanPart, SearchPart, FileRead};
+ghost use Rattle.block.specs.Reads.{Framed, FieldRead, NumbersAt, FileRead};
 
 use crate::due::Due;
 use crate::field::Field;
-use crate::numbers::{PlanNumbers, SearchNumbers};
+use crate::numbers::{Numbers, PlanNumbers, SearchNumbers};
 use base::Refusal;
 
 // A tag and a length of two bytes.
@@ -38,8 +38,8 @@ pub struct Block<'a> {
 pub fn examine(input: &[u8]) -> Result<Block<'_>, Refusal>
     ensures { FileRead input.now result }
 {
-    let (plan_field, plan) = plan_part(input)?;
-    let (search_field, search) = search_part(input)?;
+    let (plan_field, plan) = numbers_at::<PlanNumbers>(input, PLAN_AT)?;
+    let (search_field, search) = numbers_at::<SearchNumbers>(input, SEARCH_AT)?;
     let due = Due::Values { sent: plan.sent };
     let values_field = field_at(input, VALUES_AT, due)?;
     let end = VALUES_AT + HEADER + due.length();
@@ -58,31 +58,30 @@ pub fn examine(input: &[u8]) -> Result<Block<'_>, Refusal>
     })
 }
 
-// The plan field with its numbers.
-fn plan_part(input: &[u8]) -> Result<(Field<'_>, PlanNumbers), Refusal>
-    ensures { PlanPart input.now result }
+// The field that is due at an offset with its numbers, or what is wrong with it.
+pub fn numbers_at<N: Numbers>(input: &[u8], at: usize) -> Result<(Field<'_>, N), Refusal>
+    ensures { NumbersAt N.DUE N.holds input.now at result }
 {
-    let field = field_at(input, PLAN_AT, Due::Plan)?;
-    match PlanNumbers::read(field.body()) {
-        Some(plan) => Ok((field, plan)),
-        None => unreachable(),
-    }
-}
-
-// The search field with its numbers.
-fn search_part(input: &[u8]) -> Result<(Field<'_>, SearchNumbers), Refusal>
-    ensures { SearchPart input.now result }
-{
-    let field = field_at(input, SEARCH_AT, Due::Search)?;
-    match SearchNumbers::read(field.body()) {
-        Some(search) => Ok((field, search)),
-        None => unreachable(),
-    }
+    let field = framed(input, at, N::DUE)?;
+    let numbers = N::read(field.body).ok_or(Refusal::Form { at })?;
+    Ok((field, numbers))
 }
 
 // The field that is due at an offset, or what is wrong with it.
 pub fn field_at<'a>(input: &'a [u8], at: usize, due: Due) -> Result<Field<'a>, Refusal>
     ensures { FieldRead input.now at due result }
+{
+    let field = framed(input, at, due)?;
+    if is_sound(due, field.body) {
+        Ok(field)
+    } else {
+        Err(Refusal::Form { at })
+    }
+}
+
+// The field that is due at an offset, with its tag, its length and its whole body; its codes are not looked at.
+fn framed<'a>(input: &'a [u8], at: usize, due: Due) -> Result<Field<'a>, Refusal>
+    ensures { Framed input.now at due result }
 {
     if at >= input.len() {
         return Err(Refusal::Tag { at });
@@ -102,14 +101,7 @@ pub fn field_at<'a>(input: &'a [u8], at: usize, due: Due) -> Result<Field<'a>, R
         return Err(Refusal::Cut { at });
     }
     let body = &input[at + HEADER..at + HEADER + length];
-    if !sound_body(due, body) {
-        return Err(Refusal::Form { at });
-    }
-    Ok(match due {
-        Due::Plan => Field::Plan { body, at },
-        Due::Search => Field::Search { body, at },
-        Due::Values { .. } => Field::Values { body, at },
-    })
+    Ok(Field { due, body, at })
 }
 
 // The length that the header at an offset states.
@@ -121,7 +113,7 @@ fn stated_length(input: &[u8], at: usize) -> usize
 }
 
 // Whether a body has the right length and lists every code in it.
-fn sound_body(due: Due, body: &[u8]) -> bool
+fn is_sound(due: Due, body: &[u8]) -> bool
     ensures { result ≡ sound due body.now }
 {
     match due {

@@ -8,6 +8,8 @@ use std::io::Read;
 fn main(rt: HostRuntime) -> io::Result<()> {
     let mut input = Vec::new(rt.alloc());
     rt.stdin().read_to_end(&mut input)?;
-    let sheet = inspect(input.as_slice());
-    print!(rt; "{sheet}")
+    match inspect(input.as_slice()) {
+        Ok(sheet) => print!(rt; "{sheet}"),
+        Err(bad) => print!(rt; "{bad}"),
+    }
 }

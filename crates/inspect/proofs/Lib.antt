@@ -1,1 +1,2 @@
+mod Mapped
 mod Places

@@ -2,19 +2,17 @@
 use Rattle.std.proofs.Common.{◌≡◌, ℕ, zero, suc, ◌<◌, Bool, cond, eqb, List, length, ℤ, pos, Some, None, Ok, Err, Result, sym, refl, ap, ◌∙◌, subst, arith}
 use Rattle.std.proofs.lemmas.Bool.Decides.{nat_tests}
 use Rattle.base.specs.declared.refusal.Refusal.{Refusal}
-use Rattle.block.specs.Fields.{field_body, received_at, request_of}
+use Rattle.block.specs.Fields.{received_at, request_of}
 use Rattle.code.specs.First.{first_below}
 use Rattle.code.specs.Recovery.{total_below, value_at, share_of, unsent_soft, soft_at, beyond, bad_value, recovery_verdict, Recovers}
 use Rattle.plan.specs.Plans.{Made, Planned, block_length, sent_bits, place_of, sent_at, mode_in}
+use Rattle.plan.specs.Requests.{verdict}
 use Rattle.plan.specs.declared.plan.Plan.{Plan}
 use Rattle.plan.specs.declared.request.Request.{Request}
-use Rattle.block.specs.File.{file_fault, sent_of, values_at}
-use Rattle.block.specs.Reads.{FieldIs, FileIs}
+use Rattle.block.specs.File.{file_fault}
+use Rattle.block.specs.Reads.{FileIs}
 use Rattle.block.specs.declared.reader.Block.{Block}
-use Rattle.block.specs.declared.due.Due.TheVariants as due
-use Rattle.block.specs.declared.field.Field.{Field}
-use Rattle.block.specs.declared.field.Field.TheVariants as field
-use Rattle.inspect.specs.Softs.{PlanOf, values_verdict, values_of, SoftValues, Softens}
+use Rattle.inspect.specs.Softs.{PlanOf, PlanRefused, values_verdict, values_of, SoftValues, Softens}
 
 -- tests that agree below n find the same first number
 pub first-same : (p q : ℕ → Bool) (n : ℕ) → ((k : ℕ) → k < n → p k ≡ q k) → first_below p n ≡ first_below q n
@@ -57,12 +55,6 @@ softens plan body values before after (Ok done) sent whole read is = (
 )
 softens plan body values before after (Err e) sent whole read is = sym (verdict-same plan body values (length before) sent whole read) ∙ is.0
 
--- the body of a values field that was read
-pub values-body : (input : List ℕ) (f : Field) → FieldIs input values_at (due.Values (sent_of input)) f → field_body f ≡ values_of input
-values-body input (field.Plan body place) h = absurd h
-values-body input (field.Search body place) h = absurd h
-values-body input (field.Values body place) h = h.0
-
 -- a plan that was made of the numbers in a file is the plan of the file
 pub plan-of : {X : Type 0} (input : List ℕ) (b : Block) (before plan : Plan) (q : Request) (r : Result X Refusal) (x : X)
     → (file_fault input ≡ None) × FileIs input b → r ≡ Ok x → Made before q r plan → q ≡ request_of b.plan → PlanOf input plan
@@ -71,6 +63,16 @@ plan-of {X = X} input b before plan q r x file is made same = record {
   numbers = b.plan;
   holds = file.1.plan;
   planned = subst (λ (p : Request). Planned p plan) same (subst (λ (s : Result X Refusal). Made before q s plan) is made).1;
+}
+
+-- and a refusal to make one is a refusal of the plan of the file
+pub refused-of : {X : Type 0} (input : List ℕ) (b : Block) (before plan : Plan) (q : Request) (r : Result X Refusal) (e : Refusal)
+    → (file_fault input ≡ None) × FileIs input b → r ≡ Err e → Made before q r plan → q ≡ request_of b.plan → PlanRefused input e
+refused-of {X = X} input b before plan q r e file is made same = record {
+  granted = file.0;
+  numbers = b.plan;
+  holds = file.1.plan;
+  refused = subst (λ (p : Request). verdict p ≡ Some e) same (subst (λ (s : Result X Refusal). Made before q s plan) is made).0;
 }
 
 -- soft values from the body that was read are those of the file

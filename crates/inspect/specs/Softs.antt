@@ -11,7 +11,8 @@ use Rattle.plan.specs.Plans.{Planned, block_length, sent_bits}
 use Rattle.plan.specs.Requests.{verdict}
 use Rattle.plan.specs.declared.plan.Plan.{Plan}
 use Rattle.inspect.specs.declared.soft.SoftSheet.{SoftSheet}
-use Rattle.inspect.specs.declared.soft.SoftSheet.TheVariants.{Untold, BadValue, Places}
+use Rattle.inspect.specs.declared.soft.SoftFault.{SoftFault}
+use Rattle.inspect.specs.declared.soft.SoftFault.TheVariants.{Untold, BadValue}
 
 -- what refuses the received values in a body, if anything does: the first of the sent ones that is beyond its limits
 abbrev pub values_verdict : Plan → (body : List ℕ) → Option Refusal
@@ -53,7 +54,7 @@ pub record ValuesRefused (input : List ℕ) (e : Refusal) : Type 0 where
   pub own : PlanOf input plan
   pub refused : values_verdict plan (values_of input) ≡ Some e
 
-abbrev pub SoftSheetOf : (input : List ℕ) → SoftSheet → Type 0
-SoftSheetOf input (Untold e) = (file_fault input ≡ Some e) ⊎ PlanRefused input e
-SoftSheetOf input (BadValue e) = ValuesRefused input e
-SoftSheetOf input (Places plan llrs) = PlanOf input plan × SoftValues plan (values_of input) llrs
+abbrev pub SoftSheetOf : (input : List ℕ) → Result SoftSheet SoftFault → Type 0
+SoftSheetOf input (Ok sheet) = PlanOf input sheet.plan × SoftValues sheet.plan (values_of input) sheet.llrs
+SoftSheetOf input (Err (Untold e)) = (file_fault input ≡ Some e) ⊎ PlanRefused input e
+SoftSheetOf input (Err (BadValue e)) = ValuesRefused input e

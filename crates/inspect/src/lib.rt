@@ -7,6 +7,6 @@ mod soft_text;
 mod text;
 mod words;
 
-pub use sheet::{Sheet, SoftCount, inspect};
-pub use soft::{SoftSheet, soft_places, soft_sheet};
+pub use sheet::{BadSheet, Sheet, SoftCount, inspect};
+pub use soft::{SoftFault, SoftSheet, soft_places, soft_sheet};
 pub use words::reason;

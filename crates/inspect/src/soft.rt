@@ -15,29 +15,28 @@ const MOST_SENT: usize = 8192;
 
 const MOST_PLACES: usize = 1024;
 
+// Line C: a soft value for every place of the plan's block.
 #[derive(Drop)]
-pub enum SoftSheet {
+pub struct SoftSheet {
+    pub plan: Plan,
+    pub llrs: [i32; MOST_PLACES],
+}
+
+// Why there is no line C.
+#[derive(Clone, Copy, PartialEq, Eq, Debug)]
+pub enum SoftFault {
     // the file or its plan is refused, so nothing is recovered
-    Untold {
-        fault: Refusal,
-    },
+    Untold(Refusal),
     // a received value is beyond its limits
-    BadValue {
-        fault: Refusal,
-    },
-    // line C: a soft value for every place of the plan's block
-    Places {
-        plan: Plan,
-        llrs: [i32; MOST_PLACES],
-    },
+    BadValue(Refusal),
 }
 
 // Reads the received values out of a body.
 fn unpack(body: &[u8], values: &mut [i16])
     ensures { (k : ℕ) → k < length values.old → value_at values.new k ≡ received_at body.now k }
 {
-    for k in 0..values.len() {
-        values[k] = received(body, k);
+    for (k, value) in values.iter_mut().enumerate() {
+        *value = received(body, k);
     }
 }
 
@@ -68,19 +67,12 @@ pub fn soft_places(plan: &Plan, body: &[u8]) -> Result<[i32; MOST_PLACES], Refus
 }
 
 // The soft values of a block file.
-pub fn soft_sheet(input: &[u8]) -> SoftSheet
+pub fn soft_sheet(input: &[u8]) -> Result<SoftSheet, SoftFault>
     ensures { SoftSheetOf input.now result }
 {
-    let block = match examine(input) {
-        Ok(block) => block,
-        Err(fault) => return SoftSheet::Untold { fault },
-    };
+    let block = examine(input).map_err(SoftFault::Untold)?;
     let mut plan = Plan::builtin();
-    if let Err(fault) = plan.make(&block.plan.request()) {
-        return SoftSheet::Untold { fault };
-    }
-    match soft_places(&plan, block.fields.values.body()) {
-        Ok(llrs) => SoftSheet::Places { plan, llrs },
-        Err(fault) => SoftSheet::BadValue { fault },
-    }
+    plan.make(&block.plan.request()).map_err(SoftFault::Untold)?;
+    let llrs = soft_places(&plan, block.fields.values.body).map_err(SoftFault::BadValue)?;
+    Ok(SoftSheet { plan, llrs })
 }

@@ -1,24 +1,23 @@
 // Soft values by place as text. Tested, not proved: that it is written, and not what.
-use crate::soft::SoftSheet;
-use crate::words::reason;
-use base::Refusal;
+use crate::soft::{SoftFault, SoftSheet};
+use crate::words::write_fault;
 use plan::{Mode, Plan};
 use std::fmt;
 
-// Nothing where the file or its plan is refused: the checklist has told it.
 impl fmt::Display for SoftSheet {
     fn fmt<W: fmt::Write>(&self, f: &mut fmt::Formatter<W>) -> fmt::Result {
-        match self {
-            SoftSheet::Untold { .. } => Ok(()),
-            SoftSheet::BadValue { fault } => write_fault(f, *fault),
-            SoftSheet::Places { plan, llrs } => write_places(f, plan, llrs),
-        }
+        write_places(f, &self.plan, &self.llrs)
     }
 }
 
-fn write_fault<W: fmt::Write>(f: &mut fmt::Formatter<W>, fault: Refusal) -> fmt::Result {
-    let words = reason(fault);
-    writeln!(f, "fault {fault}\n  {words}")
+// Nothing where the file or its plan is refused: the checklist has told it.
+impl fmt::Display for SoftFault {
+    fn fmt<W: fmt::Write>(&self, f: &mut fmt::Formatter<W>) -> fmt::Result {
+        match *self {
+            SoftFault::Untold(_) => Ok(()),
+            SoftFault::BadValue(fault) => write_fault(f, fault),
+        }
+    }
 }
 
 // Line C, and a line for every eight places.
@@ -28,11 +27,9 @@ fn write_places<W: fmt::Write>(
     llrs: &[i32],
 ) -> fmt::Result {
     writeln!(f, "C soft values by place{}", unsent_words(plan.mode()))?;
-    for (i, llr) in llrs.iter().enumerate() {
-        if i < plan.length() {
-            write_lead(f, i)?;
-            write_soft(f, plan, i, *llr)?;
-        }
+    for (i, llr) in llrs.iter().take(plan.length()).enumerate() {
+        write_lead(f, i)?;
+        write_soft(f, plan, i, *llr)?;
     }
     writeln!(f, "")
 }

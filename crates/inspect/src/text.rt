@@ -1,70 +1,55 @@
 // The checklist as text. Tested, not proved: that it is written, and not what.
-use crate::sheet::{Sheet, SoftCount};
-use crate::words::reason;
-use base::Refusal;
-use block::{CheckCode, PlanNumbers, SearchNumbers, StoreCode};
+use crate::sheet::{BadSheet, Sheet, SoftCount};
+use crate::words::write_fault;
+use block::{PlanNumbers, SearchNumbers};
 use plan::{Kind, Mode, Plan};
 use std::fmt;
 
 impl fmt::Display for Sheet {
     fn fmt<W: fmt::Write>(&self, f: &mut fmt::Formatter<W>) -> fmt::Result {
-        match self {
-            Sheet::BadFile { fault, soft } => write_bad_file(f, *fault, soft),
-            Sheet::BadPlan {
+        write_numbers(f, &self.numbers)?;
+        write_limits(f, &self.limits)?;
+        write!(f, "{}", self.soft)?;
+        write_plan(f, &self.plan)
+    }
+}
+
+impl fmt::Display for BadSheet {
+    fn fmt<W: fmt::Write>(&self, f: &mut fmt::Formatter<W>) -> fmt::Result {
+        match *self {
+            BadSheet::File { fault, soft } => {
+                write_fault(f, fault)?;
+                match soft {
+                    Some(count) => write!(f, "{count}"),
+                    None => Ok(()),
+                }
+            }
+            BadSheet::Plan {
                 fault,
                 numbers,
                 soft,
-            } => write_bad_plan(f, *fault, numbers, *soft),
-            Sheet::Whole {
-                plan,
-                numbers,
-                limits,
-                soft,
             } => {
-                write_numbers(f, numbers)?;
-                write_limits(f, limits)?;
-                write_soft(f, *soft)?;
-                write_plan(f, plan)
+                write_fault(f, fault)?;
+                write_numbers(f, &numbers)?;
+                write!(f, "{soft}")
             }
         }
     }
 }
 
-fn write_bad_file<W: fmt::Write>(
-    f: &mut fmt::Formatter<W>,
-    fault: Refusal,
-    soft: &Option<SoftCount>,
-) -> fmt::Result {
-    write_fault(f, fault)?;
-    match soft {
-        Some(count) => write_soft(f, *count),
-        None => Ok(()),
-    }
-}
-
-fn write_bad_plan<W: fmt::Write>(
-    f: &mut fmt::Formatter<W>,
-    fault: Refusal,
-    numbers: &PlanNumbers,
-    soft: SoftCount,
-) -> fmt::Result {
-    write_fault(f, fault)?;
-    write_numbers(f, numbers)?;
-    write_soft(f, soft)
-}
-
-fn write_fault<W: fmt::Write>(f: &mut fmt::Formatter<W>, fault: Refusal) -> fmt::Result {
-    let words = reason(fault);
-    writeln!(f, "fault {fault}\n  {words}")
-}
-
-fn check_name(check: CheckCode) -> &'static str {
-    match check {
-        CheckCode::None => "none",
-        CheckCode::Trailing6 => "trailing, 6 bits",
-        CheckCode::Trailing11 => "trailing, 11 bits",
-        CheckCode::Spread4 => "spread, 4 bits",
-        CheckCode::Spread24 => "spread, 24 bits",
+// Line A, under the place where the values stand.
+impl fmt::Display for SoftCount {
+    fn fmt<W: fmt::Write>(&self, f: &mut fmt::Formatter<W>) -> fmt::Result {
+        let SoftCount { present, granted } = *self;
+        let verdict = if present == granted {
+            "as granted"
+        } else {
+            "NOT as granted"
+        };
+        writeln!(
+            f,
+            "field values at 24\nA soft values: {present} present, {granted} granted: {verdict}"
+        )
     }
 }
 
@@ -77,18 +62,10 @@ fn write_numbers<W: fmt::Write>(f: &mut fmt::Formatter<W>, p: &PlanNumbers) -> f
         parity,
         check,
     } = *p;
-    let name = check_name(check);
     writeln!(
         f,
-        "field plan at 0: n {n}, A {payload}, E {sent}, t {low}, p {parity}, check {name}"
+        "field plan at 0: n {n}, A {payload}, E {sent}, t {low}, p {parity}, check {check}"
     )
-}
-
-fn store_name(store: StoreCode) -> &'static str {
-    match store {
-        StoreCode::Table => "table",
-        StoreCode::Heap => "heap",
-    }
 }
 
 fn write_limits<W: fmt::Write>(f: &mut fmt::Formatter<W>, s: &SearchNumbers) -> fmt::Result {
@@ -99,24 +76,9 @@ fn write_limits<W: fmt::Write>(f: &mut fmt::Formatter<W>, s: &SearchNumbers) -> 
         steps,
         words,
     } = *s;
-    let name = store_name(store);
     writeln!(
         f,
-        "field search at 12: S {capacity}, store {name}, C {failures}, T {steps}, words wanted {words}"
-    )
-}
-
-// Line A.
-fn write_soft<W: fmt::Write>(f: &mut fmt::Formatter<W>, soft: SoftCount) -> fmt::Result {
-    let SoftCount { present, granted } = soft;
-    let verdict = if present == granted {
-        "as granted"
-    } else {
-        "NOT as granted"
-    };
-    writeln!(
-        f,
-        "field values at 24\nA soft values: {present} present, {granted} granted: {verdict}"
+        "field search at 12: S {capacity}, store {store}, C {failures}, T {steps}, words wanted {words}"
     )
 }
 
@@ -131,9 +93,14 @@ fn mode_name(mode: Mode) -> &'static str {
 // Line B.
 fn write_plan<W: fmt::Write>(f: &mut fmt::Formatter<W>, plan: &Plan) -> fmt::Result {
     write_sizes(f, plan)?;
-    write_kind(f, plan, Kind::Information, "information")?;
-    write_kind(f, plan, Kind::Parity, "parity")?;
-    write_unsent(f, plan)
+    let length = plan.length();
+    write_chosen(f, "information positions", length, |i| {
+        plan.kind(i) == Kind::Information
+    })?;
+    write_chosen(f, "parity positions", length, |i| {
+        plan.kind(i) == Kind::Parity
+    })?;
+    write_chosen(f, "unsent places", length, |i| !plan.is_sent(i))
 }
 
 fn write_sizes<W: fmt::Write>(f: &mut fmt::Formatter<W>, plan: &Plan) -> fmt::Result {
@@ -143,41 +110,22 @@ fn write_sizes<W: fmt::Write>(f: &mut fmt::Formatter<W>, plan: &Plan) -> fmt::Re
     writeln!(f, "B plan: mode {mode}, N {length}, K {word}")
 }
 
-// The positions of a kind, ascending, on a line of their own.
-fn write_kind<W: fmt::Write>(
+// The indices below a length that a test picks, ascending, on a line of their own.
+fn write_chosen<W: fmt::Write, P: Fn(usize) -> bool>(
     f: &mut fmt::Formatter<W>,
-    plan: &Plan,
-    kind: Kind,
     name: &str,
-) -> fmt::Result {
-    write!(f, "  {name} positions:")?;
-    let mut any = false;
-    for i in 0..plan.length() {
-        if plan.kind(i) == kind {
-            any = true;
-            write!(f, " {i}")?;
-        }
+    length: usize,
+    picks: P,
+) -> fmt::Result
+    requires { P.IsAlwaysCallable picks }
+{
+    write!(f, "  {name}:")?;
+    let mut chosen = (0..length).filter(|i| picks(*i)).peekable();
+    if chosen.peek().is_none() {
+        return writeln!(f, " none");
     }
-    end_list(f, any)
-}
-
-// The unsent places, ascending, on a line of their own.
-fn write_unsent<W: fmt::Write>(f: &mut fmt::Formatter<W>, plan: &Plan) -> fmt::Result {
-    write!(f, "  unsent places:")?;
-    let mut any = false;
-    for i in 0..plan.length() {
-        if !plan.is_sent(i) {
-            any = true;
-            write!(f, " {i}")?;
-        }
+    for i in chosen {
+        write!(f, " {i}")?;
     }
-    end_list(f, any)
-}
-
-fn end_list<W: fmt::Write>(f: &mut fmt::Formatter<W>, any: bool) -> fmt::Result {
-    if any {
-        writeln!(f, "")
-    } else {
-        writeln!(f, " none")
-    }
+    writeln!(f, "")
 }

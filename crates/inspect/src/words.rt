@@ -1,5 +1,6 @@
 // Refusals in words, for a person. Tested, not proved: any text is safe.
 use base::Refusal;
+use std::fmt;
 
 pub fn reason(fault: Refusal) -> &'static str {
     match fault {
@@ -23,4 +24,10 @@ pub fn reason(fault: Refusal) -> &'static str {
         Refusal::Budget => "the budget of steps is beyond its limits, or scratch is too short",
         Refusal::OutputLength => "the output is not as long as the payload",
     }
+}
+
+// A refusal, and under it its reason.
+pub(crate) fn write_fault<W: fmt::Write>(f: &mut fmt::Formatter<W>, fault: Refusal) -> fmt::Result {
+    let words = reason(fault);
+    writeln!(f, "fault {fault}\n  {words}")
 }

@@ -27,7 +27,7 @@ fn account(input: &[u8], row: Row, bits: usize) -> Result<Account, Refusal> {
     let block = examine(input)?;
     let mut plan = Plan::builtin();
     plan.make(&block.plan.request())?;
-    let soft = soft_values(&plan, block.fields.values.body())?;
+    let soft = soft_values(&plan, block.fields.values.body)?;
     let bits = bits.min(plan.length());
     Ok(Account {
         plan,

@@ -47,10 +47,10 @@ fn a_file_is_read_whole(rt: HostRuntime) -> Result<(), Fail> {
     };
     assert_eq!(rt; block.plan, plan);
     assert_eq!(rt; block.search, search);
-    assert_eq!(rt; block.fields.plan.at(), 0);
-    assert_eq!(rt; block.fields.search.at(), 12);
-    assert_eq!(rt; block.fields.values.at(), 24);
-    assert_eq!(rt; block.fields.values.body().len(), 64);
+    assert_eq!(rt; block.fields.plan.at, 0);
+    assert_eq!(rt; block.fields.search.at, 12);
+    assert_eq!(rt; block.fields.values.at, 24);
+    assert_eq!(rt; block.fields.values.body.len(), 64);
     Ok(())
 }
 
