@@ -22,11 +22,7 @@ const MOST_SENT: usize = 8192;
 fn bits_of(heap: Global, bytes: &[u8]) -> Result<Vec<bool>, AllocError>
     ensures { IfOk result (λ v. v.items ≡ bits_of bytes.now) }
 {
-    let mut bits = Vec::new(heap);
-    for i in 0..bytes.len() {
-        bits.push(bytes[i] == 1)?;
-    }
-    Ok(bits)
+    bytes.iter().map(|byte| *byte == 1).collect(heap)
 }
 
 // The finished word of a payload that the check takes.
@@ -49,11 +45,7 @@ pub fn finished_word(
 pub fn laid_bits(heap: Global, word: &Laid, count: usize) -> Result<Vec<bool>, AllocError>
     ensures { IfOk result (λ v. v.items ≡ map (laid_at word.now) (range_with_len 0 count)) }
 {
-    let mut bits = Vec::new(heap);
-    for i in 0..count {
-        bits.push(word.bit(i))?;
-    }
-    Ok(bits)
+    (0..count).map(|i| word.bit(i)).collect(heap)
 }
 
 // The sent bits of a coded word of a plan.

@@ -1,14 +1,19 @@
--- Every turn asks one index. Assumes nothing.
-use Rattle.std.proofs.Common.{refl, add-one}
+use Rattle.std.proofs.Common.{◌≡◌, ℕ, ◌<◌, Bool, true, false, eqb, List, length, get_or, MatchBool, sym, rules, arith, tests}
+use Rattle.std.proofs.lemmas.Iterator.{cases_from_any, YieldsList-from_slice}
+use Rattle.std.specs.List.{AllWithin, HoldsAt}
 use Rattle.base.specs.Counts.{any_below}
+use Rattle.base.proofs.Counts.{any-from, any_none}
 use Rattle.sender.proofs.arrival.is_flipped.Goals as goal
 
-pub loop-j-init : goal.loop-j-init
-unfolding any_below
-loop-j-init c = refl
+any_is : (p : ℕ → Bool) (xs : List ℕ) (r : Bool)
+    → MatchBool r ((k : ℕ) × (k < length xs) × HoldsAt (λ x. p x ≡ true) xs k) (AllWithin (λ x. p x ≡ false) xs 0 (length xs))
+    → r ≡ any_below (λ j. p (get_or xs j 0)) (length xs)
+any_is p xs true h = sym (any-from (λ j. p (get_or xs j 0)) (length xs) h.0 h.1 (h.2 0))
+any_is p xs false h = sym (any_none (λ j. p (get_or xs j 0)) (length xs) (λ k l. h k 0 (omega arith) l))
 
-pub loop-j-preserved : goal.loop-j-preserved
-unfolding any_below
-loop-j-preserved c =
-    let was = c.loop-j.invariant in
-    rw (add-one, any_below, ← was)
+pub returns : goal.returns
+returns c =
+    let p : ℕ → Bool = λ flip. eqb flip c.args.k in
+    any_is p c.args.flips.now c.any.result
+    (cases_from_any _ _ _ (λ flip. p flip ≡ true) (λ flip. p flip ≡ false) c.any.ensures.ran (YieldsList-from_slice c.args.flips.now cc)
+    (λ x q k. search (rules, tests)) (λ x q k. search (rules, tests)))
