@@ -2,7 +2,7 @@ use Rattle.std.proofs.Common.{Some, sym, ap, ◌∙◌}
 use Rattle.base.specs.declared.refusal.Refusal.TheVariants as refusal
 use Rattle.model.specs.Blocks.{meaning_of}
 use Rattle.decoder.proofs.Loads.{granted, refused-value, allowed_then, same_block}
-use Rattle.decoder.proofs.decoder.Decoder.examined.Goals as goal
+use Rattle.decoder.proofs.state.State.examined.Goals as goal
 
 pub returns-in-Some : goal.returns-in-Some
 returns-in-Some g c =

@@ -5,8 +5,8 @@ use Rattle.decoder.specs.States.{Sound}
 use Rattle.decoder.specs.declared.phase.Phase.TheVariants as phase
 use Rattle.decoder.specs.declared.report.Met.TheVariants as met
 use Rattle.decoder.proofs.Advances.{Done, ended, starts, done-halted, done-paused, done-shown, goes-again}
-use Rattle.decoder.proofs.decoder.Decoder.search.Invariants.{means}
-use Rattle.decoder.proofs.decoder.Decoder.search.Goals as goal
+use Rattle.decoder.proofs.state.State.search.Invariants.{means}
+use Rattle.decoder.proofs.state.State.search.Goals as goal
 
 pub loop-init : goal.loop-init
 loop-init g c = (starts (means g) c.args.self.now c.args.budget, refl, refl, refl, tt)

@@ -2,8 +2,8 @@ use Rattle.std.proofs.Common.{leb, sym, ◌∙◌}
 use Rattle.std.proofs.lemmas.Bool.{or_left, or_right, or_from, le-leb, lt-leb}
 use Rattle.cost.specs.Rows.{path_at}
 use Rattle.decoder.proofs.Advances.{none_left, given-up, goes_on}
-use Rattle.decoder.proofs.decoder.Decoder.halt.Goals as goal
-use Rattle.decoder.proofs.decoder.Decoder.halt.Goals.{then-self-via-then-self, then-self-via-else-self+then-self-2}
+use Rattle.decoder.proofs.state.State.halt.Goals as goal
+use Rattle.decoder.proofs.state.State.halt.Goals.{then-self-via-then-self, then-self-via-else-self+then-self-2}
 
 pub returns-then-count-eq0 : goal.returns-then-count-eq0
 returns-then-count-eq0 g c =

@@ -1,7 +1,7 @@
 use Rattle.std.proofs.Common.{map, length, ap, ◌∙◌}
 use Rattle.code.specs.Sending.{byte_of}
 use Rattle.decoder.proofs.Shows.{read-accepted}
-use Rattle.decoder.proofs.decoder.Decoder.write_carried.Goals as goal
+use Rattle.decoder.proofs.state.State.write_carried.Goals as goal
 
 pub returns : goal.returns
 returns g c = λ accepted.

@@ -10,7 +10,7 @@ use Rattle.model.proofs.Following.{start-follows}
 use Rattle.decoder.specs.Blocks.{plan_in, llr_in}
 use Rattle.decoder.proofs.Apart.{apart-put, apart_none}
 use Rattle.decoder.proofs.Starts.{root-exact}
-use Rattle.decoder.proofs.decoder.Decoder.start.Goals as goal
+use Rattle.decoder.proofs.state.State.start.Goals as goal
 
 pub returns : goal.returns
 returns g c =

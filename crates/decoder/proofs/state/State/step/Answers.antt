@@ -5,7 +5,7 @@ use Rattle.decoder.specs.Phases.{is_loaded}
 use Rattle.decoder.specs.States.{meanings}
 use Rattle.decoder.proofs.Apart.{apart-taken}
 use Rattle.decoder.proofs.Wholes.{none-taken, sound-step, children-step, word-step}
-use Rattle.decoder.proofs.decoder.Decoder.step.Goals as goal
+use Rattle.decoder.proofs.state.State.step.Goals as goal
 
 pub returns-in_default : goal.returns-in_default
 returns-in_default g c =

@@ -3,7 +3,7 @@ use Rattle.decoder.specs.Blocks.{HeldIn}
 use Rattle.decoder.specs.States.{Meanings, meanings, Sound}
 use Rattle.decoder.specs.declared.phase.Phase.TheVariants as phase
 use Rattle.decoder.proofs.Advances.{Going}
-use Rattle.decoder.proofs.decoder.Decoder.search.Given as goal
+use Rattle.decoder.proofs.state.State.search.Given as goal
 
 abbrev pub means : (g : goal.Over) → Meanings g.row.S.Denot g.row.C.Denot
 means g = meanings g.S.Store g.C.Judge

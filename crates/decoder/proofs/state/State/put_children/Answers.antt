@@ -13,7 +13,7 @@ use Rattle.decoder.specs.Blocks.{plan_in, llr_in}
 use Rattle.decoder.specs.States.{loaded_of, meanings}
 use Rattle.decoder.specs.Steps.{path_of}
 use Rattle.decoder.proofs.Wholes.{child-costs, costs-on, ready_on, searched-on, allowed-first}
-use Rattle.decoder.proofs.decoder.Decoder.put_children.Goals as goal
+use Rattle.decoder.proofs.state.State.put_children.Goals as goal
 
 pub returns-in-Frozen : goal.returns-in-Frozen
 returns-in-Frozen g c =

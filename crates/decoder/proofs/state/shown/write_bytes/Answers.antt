@@ -2,8 +2,8 @@ use Rattle.std.proofs.Common.{◌≡◌, false, map, get_or, sym, ap, ◌∙◌,
 use Rattle.std.proofs.lemmas.List.{length-set, take_all}
 use Rattle.code.specs.Sending.{byte_of}
 use Rattle.decoder.proofs.Shows.{bytes-more}
-use Rattle.decoder.proofs.decoder.shown.write_bytes.Goals as goal
-use Rattle.decoder.proofs.decoder.shown.write_bytes.Goals.{then-bit, else-bit}
+use Rattle.decoder.proofs.state.shown.write_bytes.Goals as goal
+use Rattle.decoder.proofs.state.shown.write_bytes.Goals.{then-bit, else-bit}
 
 pub loop-k-preserved : goal.loop-k-preserved
 loop-k-preserved c =

@@ -4,7 +4,7 @@ use Rattle.model.specs.Blocks.{meaning_of}
 use Rattle.decoder.specs.Blocks.{plan_in, llr_in}
 use Rattle.decoder.proofs.Apart.{apart-put}
 use Rattle.decoder.proofs.Steps.{skips, puts-child, put-later, parent-path}
-use Rattle.decoder.proofs.decoder.Decoder.put_child.Goals as goal
+use Rattle.decoder.proofs.state.State.put_child.Goals as goal
 
 pub left_out-requires : goal.left_out-requires
 left_out-requires g c =

@@ -14,7 +14,7 @@ ghost use Rattle.search.specs.Paths.{allowed, information_from, is_information};
 ghost use Rattle.search.specs.Search as search;
 ghost use Rattle.search.specs.Stores.{ruled};
 
-use super::Decoder;
+use super::State;
 use crate::path::{gather, is_information, parity_sum};
 use crate::phase::Phase;
 use crate::rows::free_row;
@@ -24,7 +24,7 @@ use outer::Judge;
 use plan::Kind;
 use store::{Candidate, Store};
 
-impl<S: Store, C: Judge> Decoder<S, C> {
+impl<S: Store, C: Judge> State<S, C> {
     // Whether the check calls the information bits of the first len bits in a row hopeless.
     fn hopeless_beginning(&self, row: u8, len: usize) -> bool
         requires size { len ≤ 1024 }
