@@ -40,14 +40,14 @@ impl<S: Store, C: Judge> Decoder<S, C> {
         let Phase::Shown(c) = self.state.phase else {
             return;
         };
-        let mut word = [false; 1024];
+        let mut room = [false; 1024];
         let mut payload = [false; 512];
         let plan = self.state.block.plan();
         let path = self.state.rows.path(c.row as usize);
-        let count = gather(plan, &path, plan.length(), &mut word);
+        let word = gather(plan, &path, plan.length(), &mut room);
         let size = plan.payload_bits();
         self.state
-            .write_carried(&word[0..count], &mut payload[0..size], output);
+            .write_carried(word, &mut payload[0..size], output);
     }
 
     // Writes the payload of the shown word, a byte for each bit.

@@ -10,8 +10,9 @@ fn write_bytes(bits: &[bool], output: &mut [u8])
     requires size { length bits.now ≡ length output.old }
     ensures { output.new ≡ map byte_of bits.now }
 {
+    // by index: of a zip with iter_mut the check doesn't know what it leaves in the slice
     for (k, bit) in bits.iter().enumerate() {
-        output[k] = if *bit { 1 } else { 0 };
+        output[k] = u8::from(*bit);
     }
 }
 

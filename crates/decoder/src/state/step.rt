@@ -15,9 +15,10 @@ ghost use Rattle.search.specs.Search as search;
 ghost use Rattle.search.specs.Stores.{ruled};
 
 use super::State;
-use crate::path::{gather, is_information, parity_sum};
+use crate::path::{gather, is_information};
 use crate::phase::Phase;
 use crate::rows::free_row;
+use code::parity_sum;
 use cost::Memo;
 use cost::value::contradiction;
 use outer::Judge;
@@ -33,11 +34,11 @@ impl<S: Store, C: Judge> State<S, C> {
         if !self.check.watches() {
             return false;
         }
-        let mut word = [false; 1024];
+        let plan = self.block.plan();
         let path = self.rows.path(row as usize);
-        let count = gather(self.block.plan(), &path, len, &mut word);
-        self.check
-            .is_hopeless(self.block.plan().payload_bits(), &word[0..count])
+        let mut room = [false; 1024];
+        let beginning = gather(plan, &path, len, &mut room);
+        self.check.is_hopeless(plan.payload_bits(), beginning)
     }
 
     // Whether the child in a row, whose last bit is at position i, is left out.
@@ -103,16 +104,11 @@ impl<S: Store, C: Judge> State<S, C> {
     fn accepted_word(&self, row: u8) -> bool
         ensures { result ≡ C.accepted self.now.check (payload_bits (plan_in self.now.block)) (information_from (kinds_of (plan_in self.now.block)) 0 (first_bits (path_at self.now.rows row) (block_length (plan_in self.now.block)))) }
     {
-        let mut word = [false; 1024];
+        let plan = self.block.plan();
         let path = self.rows.path(row as usize);
-        let count = gather(
-            self.block.plan(),
-            &path,
-            self.block.plan().length(),
-            &mut word,
-        );
-        self.check
-            .accepts(self.block.plan().payload_bits(), &word[0..count])
+        let mut room = [false; 1024];
+        let word = gather(plan, &path, plan.length(), &mut room);
+        self.check.accepts(plan.payload_bits(), word)
     }
 
     // Judges a whole path: it is shown if the check accepts it.

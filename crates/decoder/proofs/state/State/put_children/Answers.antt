@@ -1,5 +1,6 @@
 use Rattle.std.proofs.Common.{◌≡◌, true, false, [], ◌∷◌, sym, ap, ◌∙◌, ap₂, arith, w32, SFits, to_z, of_z, rules}
 use Rattle.std.proofs.lemmas.Int.{to_z-of_z}
+use Rattle.code.specs.Lawful.{parity_sum}
 use Rattle.cost.specs.Values.{contradicts}
 use Rattle.cost.specs.Path.{decision}
 use Rattle.cost.specs.Rows.{path_at}
@@ -12,6 +13,7 @@ use Rattle.model.specs.Reading.{first_bits}
 use Rattle.decoder.specs.Blocks.{plan_in, llr_in}
 use Rattle.decoder.specs.States.{loaded_of, meanings}
 use Rattle.decoder.specs.Steps.{path_of}
+use Rattle.decoder.proofs.Walks.{parity-read}
 use Rattle.decoder.proofs.Wholes.{child-costs, costs-on, ready_on, searched-on, allowed-first}
 use Rattle.decoder.proofs.state.State.put_children.Goals as goal
 
@@ -47,7 +49,7 @@ returns-in-Parity g c =
     to_z-of_z w32 c.decision-value.result fits ∙ c.decision-value.ensures.value ∙ ap (λ v. decision (log_length p) (llr_in d.block) v i) c.path-path.ensures in
     let kind : kinds_of p i ≡ parity = ap kind_of (ap (λ q. kind_at q i) (sym c.plan.ensures) ∙ sym c.kind.ensures ∙ c.in-Parity.is) in
     let sum : bit ≡ parity_bit (kinds_of p) (first_bits u i) i =
-    c.parity_sum-bit.ensures ∙ ap₂ (λ q v. parity_bit (kinds_of q) (first_bits v i) i) c.plan-in-Parity.ensures c.path-path.ensures in
+    c.parity_sum-bit.ensures ∙ ap₂ (λ q v. parity_sum (kind_at q) v i) c.plan-in-Parity.ensures c.path-path.ensures ∙ parity-read p u i in
     let m = meanings g.S.Store g.C.Judge in
     record {
       model = λ ready small metric.
