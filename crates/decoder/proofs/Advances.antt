@@ -13,7 +13,7 @@ use Rattle.decoder.specs.Phases.{is_loaded}
 use Rattle.decoder.specs.States.{Meanings, Sound, phase_in, phase_of, loaded_of}
 use Rattle.decoder.specs.declared.report.Met.{Met}
 use Rattle.decoder.specs.declared.report.Met.TheVariants as met
-use Rattle.decoder.specs.declared.decoder.Decoder.{Decoder}
+use Rattle.decoder.specs.declared.state.State.{State}
 use Rattle.decoder.specs.declared.phase.Phase.{Phase}
 use Rattle.decoder.specs.declared.phase.Phase.TheVariants as phase
 
@@ -112,27 +112,27 @@ still-searching paths (phase.Shown c) d s e hides = absurd (hides c refl)
 still-searching paths phase.Ended d s e hides = absurd (never_ends d s e)
 
 -- Between two turns: what is left of the budget does the rest, from a sound decoder that searches.
-pub record Going {S C : Type 0} (m : Meanings S C) (before now : Decoder S C) (budget left : ℕ) : Type 0 where
+pub record Going {S C : Type 0} (m : Meanings S C) (before now : State S C) (budget left : ℕ) : Type 0 where
   pub rest : search.advanced stores.ruled budget (loaded_of m before) ≡ search.advanced stores.ruled left (loaded_of m now)
   pub sound : Sound m now
   pub phase : now.phase ≡ phase.Searching
 
 -- at the end: what the whole budget does was done
-pub record Done {S C : Type 0} (m : Meanings S C) (before after : Decoder S C) (budget : ℕ) (end : Met) : Type 0 where
+pub record Done {S C : Type 0} (m : Meanings S C) (before after : State S C) (budget : ℕ) (end : Met) : Type 0 where
   pub model : loaded_of m after ≡ (search.advanced stores.ruled budget (loaded_of m before)).1
   pub met : met_of (shown_path (phase_of m after)) end ≡ (search.advanced stores.ruled budget (loaded_of m before)).0
   pub sound : Sound m after
   pub loaded : is_loaded after.phase ≡ true
 
-abbrev pub ended : {S C : Type 0} → Decoder S C → Decoder S C
+abbrev pub ended : {S C : Type 0} → State S C → State S C
 ended d = record { store = d.store; check = d.check; block = d.block; rows = d.rows; counts = d.counts; phase = phase.Ended }
 
-pub starts : {S C : Type 0} (m : Meanings S C) (d : Decoder S C) (budget : ℕ) → Sound m d → d.phase ≡ phase.Searching → Going m d d budget (budget - 0)
+pub starts : {S C : Type 0} (m : Meanings S C) (d : State S C) (budget : ℕ) → Sound m d → d.phase ≡ phase.Searching → Going m d d budget (budget - 0)
 starts m d budget s p =
     let all : budget ≡ budget - 0 = omega arith in
     record { rest = ap (λ n. search.advanced stores.ruled n (loaded_of m d)) all; sound = s; phase = p }
 
-module _ {S C : Type 0} (m : Meanings S C) (before now : Decoder S C) (budget left : ℕ) (going : Going m before now budget left) where
+module _ {S C : Type 0} (m : Meanings S C) (before now : State S C) (budget left : ℕ) (going : Going m before now budget left) where
   pub done-halted : (met : Met) → halt_of (Some met) ≡ search.halt stores.ruled (loaded_of m now) → Done m before (ended now) budget met
   done-halted met e =
       let end = going.rest ∙ halted stores.ruled left (loaded_of m now) (met_of [] met) (sym e) in
@@ -154,7 +154,7 @@ module _ {S C : Type 0} (m : Meanings S C) (before now : Decoder S C) (budget le
       }
 
   module _
-      (after : Decoder S C) (n : ℕ) (some : left ≡ suc n) (looks : None ≡ search.halt stores.ruled (loaded_of m now))
+      (after : State S C) (n : ℕ) (some : left ≡ suc n) (looks : None ≡ search.halt stores.ruled (loaded_of m now))
       (step : Sound m now → now.phase ≡ phase.Searching → now.counts.steps < now.counts.most_steps → now.counts.failures < now.counts.most_failures → loaded_of m after ≡ search.step stores.ruled (loaded_of m now))
       (sound : Sound m now → now.phase ≡ phase.Searching → now.counts.steps < now.counts.most_steps → now.counts.failures < now.counts.most_failures → Sound m after)
     where

@@ -1,5 +1,5 @@
 -- A granted load of a cleanly received word. Assumes nothing.
-use Rattle.std.proofs.Common.{◌≡◌, ℕ, List, get_or, ℤ, pos, None, sym, refl, ap, ◌∙◌, subst}
+use Rattle.std.proofs.Common.{◌≡◌, List, get_or, ℤ, pos, None, sym, refl, ap, ◌∙◌, subst}
 use Rattle.clean.proofs.Advances.{received-word-first, received-payload-first}
 use Rattle.clean.specs.Advances.{CleanWordFirst, PayloadRead}
 use Rattle.clean.specs.Received.{path_of}

@@ -1,3 +1,4 @@
+pub mod Found
 pub mod Walks
 pub mod Loads
 pub mod Apart

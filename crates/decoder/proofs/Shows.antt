@@ -14,7 +14,7 @@ use Rattle.model.specs.Reading.{first_bits}
 use Rattle.decoder.specs.Answers.{payload_in}
 use Rattle.decoder.specs.Blocks.{plan_in}
 use Rattle.decoder.specs.States.{Meanings, contents_of, loaded_in, phase_in, unless_blank, model_of, OnceLoaded, ShownWhole, Sound, Coherent}
-use Rattle.decoder.specs.declared.decoder.Decoder.{Decoder}
+use Rattle.decoder.specs.declared.state.State.{State}
 use Rattle.decoder.specs.declared.phase.Phase.TheVariants as phase
 
 pub bytes-more : (bits : List Bool) (out : List ℕ) (k v : ℕ) → k < length bits → k < length out → v ≡ byte_of (get_or bits k false) → take k out ≡ map byte_of (take k bits) → take (k + 1) (set out k v) ≡ map byte_of (take (k + 1) bits)
@@ -31,7 +31,7 @@ read-accepted longest bits carried a word before after r (most, whole) size answ
 
 -- the payload of a shown word is what the check carries in the information bits of its path
 pub shown-payload :
-    {S C : Type 0} (m : Meanings S C) (d : Decoder S C) (c : Candidate) (plan : Plan) (row : ℕ → Bool) (n : ℕ) (word : List Bool) (a : ℕ) (out : List ℕ)
+    {S C : Type 0} (m : Meanings S C) (d : State S C) (c : Candidate) (plan : Plan) (row : ℕ → Bool) (n : ℕ) (word : List Bool) (a : ℕ) (out : List ℕ)
     → d.phase ≡ phase.Shown c → Coherent m d → plan ≡ plan_in d.block → row ≡ path_at d.rows c.row → n ≡ block_length plan
     → word ≡ information_from (kinds_of plan) 0 (first_bits row n) → a ≡ payload_bits (plan_in d.block)
     → ((m.check d.check).accepted a word ≡ true → out ≡ map byte_of ((m.check d.check).carried a word)) → out ≡ map byte_of (payload_in (model_of m d))

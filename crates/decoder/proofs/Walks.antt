@@ -1,18 +1,15 @@
--- The loops over scratch and over paths, one turn at a time. Assumes nothing.
-use Rattle.std.proofs.Common.{◌≡◌, ℕ, suc, ◌+◌, ◌<◌, Bool, true, false, cond, not, List, [], ◌∷◌, ◌++◌, length, get_or, take, drop, set, replicate, sym, refl, ap, ◌∙◌, ap₂, arith}
-use mathlib.Core.Bool.{xor, beq}
-use Rattle.std.proofs.lemmas.List.{append_assoc, append-nil, drop_more, length-replicate, replicate_more, set_at, take_more_set}
-use Rattle.base.specs.Counts.{xor_below}
-use Rattle.search.specs.Paths.{Kind, is_information, information_from}
+-- The bits of a path at information positions, one position at a time, and the parity sum. Assumes nothing.
+use Rattle.std.proofs.Common.{◌≡◌, ℕ, suc, ◌+◌, ◌%◌, ◌<◌, Bool, true, false, cond, ◌&&◌, eqb, List, [], ◌∷◌, ◌++◌, length, take, set, sym, ap, ◌∙◌, ap₂, arith}
+use Rattle.std.proofs.lemmas.List.{append-nil, take_more_set}
+use Rattle.base.proofs.Transform.{xor-below-same}
+use Rattle.code.specs.Lawful.{parity_sum}
+use Rattle.plan.specs.declared.plan.Plan.{Plan}
+use Rattle.plan.specs.Plans.{kind_at}
+use Rattle.search.specs.Paths.{Kind, is_information, information_from, parity_bit}
+use Rattle.model.specs.Blocks.{kinds_of}
 use Rattle.model.specs.Reading.{first_bits}
-use Rattle.model.proofs.Children.{information-first}
-
-pub fill_more : {X : Type 0} (n : ℕ) (v : X) (xs : List X) → n < length xs → set (replicate n v ++ drop n xs) n v ≡ replicate (n + 1) v ++ drop (n + 1) xs
-fill_more n v xs h =
-    ap (λ ys. set (replicate n v ++ ys) n v) (drop_more xs n v h)
-    ∙ set_at (replicate n v) (get_or xs n v) (drop (n + 1) xs) v n (length-replicate n v)
-    ∙ sym (append_assoc (replicate n v) (v ∷ []) (drop (n + 1) xs))
-    ∙ ap (λ ys. ys ++ drop (n + 1) xs) (replicate_more n v)
+use Rattle.model.proofs.Blocks.{same_kind}
+use Rattle.model.proofs.Children.{information-first, parity-first}
 
 -- the information bits of the first i bits stand in front
 
@@ -29,15 +26,7 @@ gather-on kinds u i front isnt inv =
     inv ∙ sym (information-first kinds u i ∙ ap (λ t. information_from kinds 0 (first_bits u i) ++ cond t (u i ∷ []) []) isnt ∙ append-nil _)
     ∙ ap (λ k. information_from kinds 0 (first_bits u k)) (sym next)
 
--- the parity sum
-
-pub xor-more : (f : ℕ → Bool) (j : ℕ) (s t : Bool) → s ≡ xor_below f j → t ≡ xor s (f j) → t ≡ xor_below f (j + 1)
-unfolding xor_below
-xor-more f j s t e h = let next : j + 1 ≡ suc j = omega arith in h ∙ ap (λ x. xor x (f j)) e ∙ ap (xor_below f) (sym next)
-
-pub beq-xor : (a b : Bool) → not (beq a b) ≡ xor a b
-unfolding xor
-beq-xor true true = refl
-beq-xor true false = refl
-beq-xor false true = refl
-beq-xor false false = refl
+-- the encoder's parity sum, over kinds and paths as the search reads them
+pub parity-read : (plan : Plan) (u : ℕ → Bool) (i : ℕ) → parity_sum (kind_at plan) u i ≡ parity_bit (kinds_of plan) (first_bits u i) i
+parity-read plan u i =
+    xor-below-same _ _ i (λ j h. ap (λ t. t && (eqb (j % 5) (i % 5) && u j)) (sym (same_kind (kind_at plan j)))) ∙ sym (parity-first (kinds_of plan) u i)

@@ -24,14 +24,14 @@ use Rattle.decoder.specs.Blocks.{plan_in, llr_in}
 use Rattle.decoder.specs.States.{Meanings, contents_of, loaded_of, RowsApart, ShownWhole, Sound}
 use Rattle.decoder.specs.Phases.{is_loaded}
 use Rattle.decoder.specs.Steps.{path_of, Ready, Costs, Framed, Searched}
-use Rattle.decoder.specs.declared.decoder.Decoder.{Decoder}
+use Rattle.decoder.specs.declared.state.State.{State}
 use Rattle.decoder.specs.declared.phase.Phase.TheVariants as phase
 use Rattle.decoder.proofs.Apart.{apart-taken}
 
 -- Children
 
 pub child-costs :
-    {S C : Type 0} (d : Decoder S C) (c : Candidate) (bit : Bool) (more : ℕ) → c.length < block_length (plan_in d.block)
+    {S C : Type 0} (d : State S C) (c : Candidate) (bit : Bool) (more : ℕ) → c.length < block_length (plan_in d.block)
     → c.metric ≡ path_cost (log_length (plan_in d.block)) (llr_in d.block) (path_of d c)
     → more ≡ contradicts (decision (log_length (plan_in d.block)) (llr_in d.block) (path_at d.rows c.row) c.length) bit
     → Costs d c bit more
@@ -47,7 +47,7 @@ child-costs d c bit more place metric value =
     record { cost = total; fits = omega arith }
 
 pub costs-on :
-    {S C : Type 0} (d d' : Decoder S C) (c : Candidate) (bit : Bool) (more : ℕ) → d'.block ≡ d.block → path_of d' c ≡ path_of d c
+    {S C : Type 0} (d d' : State S C) (c : Candidate) (bit : Bool) (more : ℕ) → d'.block ≡ d.block → path_of d' c ≡ path_of d c
     → Costs d c bit more → Costs d' c bit more
 costs-on d d' c bit more block path costs = record {
   cost = costs.cost ∙ ap₂ (λ b q. path_cost (log_length (plan_in b)) (llr_in b) (child q bit)) (sym block) (sym path);
@@ -55,11 +55,11 @@ costs-on d d' c bit more block path costs = record {
 }
 
 pub ready_on :
-    {S C : Type 0} (m : Meanings S C) (d d' : Decoder S C) → Ready m d → d.counts.serial < 4294967294 → d'.phase ≡ d.phase
+    {S C : Type 0} (m : Meanings S C) (d d' : State S C) → Ready m d → d.counts.serial < 4294967294 → d'.phase ≡ d.phase
     → Each (λ k. k.serial < d'.counts.serial) (m.kept d'.store) → d'.counts.serial ≤ d.counts.serial + 1 → Ready m d'
 ready_on m d d' ready small phase later serial = record { phase = phase ∙ ready.phase; later = later; fits = omega arith }
 
-pub searched-on : {S C : Type 0} (a b c : Decoder S C) → Searched a b → Searched b c → Searched a c
+pub searched-on : {S C : Type 0} (a b c : State S C) → Searched a b → Searched b c → Searched a c
 searched-on a b c p q = record {
   framed = record {
     check = q.framed.check ∙ p.framed.check;
@@ -102,7 +102,7 @@ serials-of paths b n (x ∷ xs) h = (h.0.serial, serials-of paths b n xs h.1)
 -- What a step leads to, if it leads to what the search's does
 
 pub sound-step :
-    {S C : Type 0} (m : Meanings S C) (d e : Decoder S C) → Sound m d → loaded_of m e ≡ step ruled (loaded_of m d)
+    {S C : Type 0} (m : Meanings S C) (d e : State S C) → Sound m d → loaded_of m e ≡ step ruled (loaded_of m d)
     → RowsApart (m.kept e.store) → e.counts.serial ≤ 2 * e.counts.steps + 1 → ShownWhole m e e.phase → Sound m e
 sound-step m d e sound model apart serials shown = record {
   exact = subst (AllExact ruled) (sym model) ((stays-exact ruled rules-make-a-store).steps (loaded_of m d) sound.exact);
@@ -112,7 +112,7 @@ sound-step m d e sound model apart serials shown = record {
 }
 
 -- d' is d after the take of c, with the step counted
-pub record Took {S C : Type 0} (m : Meanings S C) (d d' : Decoder S C) (c : Candidate) : Type 0 where
+pub record Took {S C : Type 0} (m : Meanings S C) (d d' : State S C) (c : Candidate) : Type 0 where
   pub answer : (store.takes (m.kept d.store)).answer ≡ Some c
   pub kept : m.kept d'.store ≡ (store.takes (m.kept d.store)).stays
   pub capacity : m.capacity d'.store ≡ m.capacity d.store
@@ -129,7 +129,7 @@ pub record Took {S C : Type 0} (m : Meanings S C) (d d' : Decoder S C) (c : Cand
 
 -- a step that finds nothing leaves the state as it is
 pub none-taken :
-    {S C : Type 0} (m : Meanings S C) (d : Decoder S C) (s : S) → (store.takes (m.kept d.store)).answer ≡ None
+    {S C : Type 0} (m : Meanings S C) (d : State S C) (s : S) → (store.takes (m.kept d.store)).answer ≡ None
     → m.kept s ≡ (store.takes (m.kept d.store)).stays → m.capacity s ≡ m.capacity d.store
     → m.floor s ≡ store.lowered store.metric_of (m.floor d.store) (store.takes (m.kept d.store)).shed
     → loaded_of m (record { store = s; check = d.check; block = d.block; rows = d.rows; counts = d.counts; phase = d.phase }) ≡ step ruled (loaded_of m d)
@@ -142,7 +142,7 @@ none-taken m d s none kept capacity floor =
     ap (λ x. record { block = (loaded_of m d).block; most_failures = (loaded_of m d).most_failures; most_steps = (loaded_of m d).most_steps; store = x; serial = (loaded_of m d).serial; steps = (loaded_of m d).steps; failures = (loaded_of m d).failures; phase = (loaded_of m d).phase }) same
     ∙ sym (ap (λ k. step_from ruled (loaded_of m d) (map (candidate_in paths) k)) empty)
 
-module _ {S C : Type 0} (m : Meanings S C) (d d' : Decoder S C) (c : Candidate) (took : Took m d d' c) where
+module _ {S C : Type 0} (m : Meanings S C) (d d' : State S C) (c : Candidate) (took : Took m d d' c) where
   abbrev paths : ℕ → ℕ → Bool
   paths = path_at d.rows
 
@@ -187,7 +187,7 @@ module _ {S C : Type 0} (m : Meanings S C) (d d' : Decoder S C) (c : Candidate) 
   -- what became of d' is what a step makes of d
 
   pub children-put :
-      (e : Decoder S C) → c.length < block_length (plan_in d.block)
+      (e : State S C) → c.length < block_length (plan_in d.block)
       → loaded_of m e ≡ put_children ruled (path_of d' c) (loaded_of m d') (allowed (kinds_of (plan_in d'.block)) (path_of d' c))
       → loaded_of m e ≡ step ruled (loaded_of m d)
   children-put e part model =
@@ -196,7 +196,7 @@ module _ {S C : Type 0} (m : Meanings S C) (d d' : Decoder S C) (c : Candidate) 
       ∙ sym (step-explores ∙ cond-false (eqb c.length (block_length (plan_in d.block))) (judged (candidate_in paths c) (after_take ruled (loaded_of m d))) _ (ne_eqb c.length (block_length (plan_in d.block)) (λ h. omega arith)))
 
   pub word-judged :
-      (e : Decoder S C) → c.length ≡ block_length (plan_in d.block)
+      (e : State S C) → c.length ≡ block_length (plan_in d.block)
       → loaded_of m e ≡ judged (candidate_in (path_at d'.rows) c) (loaded_of m d')
       → loaded_of m e ≡ step ruled (loaded_of m d)
   word-judged e whole model =
@@ -205,17 +205,17 @@ module _ {S C : Type 0} (m : Meanings S C) (d d' : Decoder S C) (c : Candidate) 
 
 -- What a step promises, where e is what it makes of d
 
-pub record Stepped {S C : Type 0} (m : Meanings S C) (d e : Decoder S C) : Type 0 where
+pub record Stepped {S C : Type 0} (m : Meanings S C) (d e : State S C) : Type 0 where
   pub model : Sound m d → d.phase ≡ phase.Searching → d.counts.steps < d.counts.most_steps → d.counts.failures < d.counts.most_failures → loaded_of m e ≡ step ruled (loaded_of m d)
   pub sound : Sound m d → d.phase ≡ phase.Searching → d.counts.steps < d.counts.most_steps → d.counts.failures < d.counts.most_failures → Sound m e
   pub loaded : d.phase ≡ phase.Searching → is_loaded e.phase ≡ true
   pub check : (e.check ≡ d.check) × (e.block ≡ d.block)
 
-searching-whole : {S C : Type 0} (m : Meanings S C) (e : Decoder S C) → e.phase ≡ phase.Searching → ShownWhole m e e.phase
+searching-whole : {S C : Type 0} (m : Meanings S C) (e : State S C) → e.phase ≡ phase.Searching → ShownWhole m e e.phase
 searching-whole m e h = subst (ShownWhole m e) (sym h) tt
 
 pub children-step :
-    {S C : Type 0} (m : Meanings S C) (d d' e : Decoder S C) (c : Candidate) → c.length < block_length (plan_in d.block)
+    {S C : Type 0} (m : Meanings S C) (d d' e : State S C) (c : Candidate) → c.length < block_length (plan_in d.block)
     → (Ready m d' → d'.counts.serial < 4294967294 → c.metric ≡ path_cost (log_length (plan_in d'.block)) (llr_in d'.block) (path_of d' c) → loaded_of m e ≡ put_children ruled (path_of d' c) (loaded_of m d') (allowed (kinds_of (plan_in d'.block)) (path_of d' c)))
     → ((RowsApart (m.kept d'.store) → RowsApart (m.kept e.store)) × (e.counts.serial ≤ d'.counts.serial + 2))
     → Searched d' e → (d.counts.steps < d.counts.most_steps → Took m d d' c) → d'.phase ≡ d.phase → d'.check ≡ d.check → d'.block ≡ d.block
@@ -237,7 +237,7 @@ children-step m d d' e c part puts apart frame took here check block = record {
         children-put m d d' c t e part (puts (took-ready m d d' c t sound searching steps) (took-serials m d d' c t sound steps) (took-metric m d d' c t sound))
 
 pub word-step :
-    {S C : Type 0} (m : Meanings S C) (d d' e : Decoder S C) (c : Candidate) → block_length (plan_in d.block) ≤ c.length
+    {S C : Type 0} (m : Meanings S C) (d d' e : State S C) (c : Candidate) → block_length (plan_in d.block) ≤ c.length
     → (c.length ≡ block_length (plan_in d'.block) → d'.counts.failures < 4294967295 → d'.phase ≡ phase.Searching → loaded_of m e ≡ judged (candidate_in (path_at d'.rows) c) (loaded_of m d'))
     → ((e.store ≡ d'.store) × (e.counts.serial ≡ d'.counts.serial)) → Framed d' e
     → (c.length ≡ block_length (plan_in d'.block) → d'.phase ≡ phase.Searching → ShownWhole m e e.phase) → (d'.phase ≡ phase.Searching → is_loaded e.phase ≡ true)

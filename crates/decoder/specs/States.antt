@@ -13,7 +13,7 @@ use Rattle.search.specs.Paths.{information_from}
 use Rattle.model.specs.Blocks.{Meaning, meaning_of, kinds_of, block_of}
 use Rattle.model.specs.Reading.{first_bits, candidate_in, contents_in}
 use Rattle.decoder.specs.Blocks.{plan_in, llr_in}
-use Rattle.decoder.specs.declared.decoder.Decoder.{Decoder}
+use Rattle.decoder.specs.declared.state.State.{State}
 use Rattle.decoder.specs.declared.phase.Phase.{Phase}
 use Rattle.decoder.specs.declared.phase.Phase.TheVariants as phase
 
@@ -27,11 +27,11 @@ pub record Meanings (S C : Type 0) : Type 0 where
 abbrev pub meanings : {S C : Type 0} → store.Ghosts S → judge.Ghosts C → Meanings S C
 meanings store judge = record { kept = store.kept; capacity = store.capacity; floor = store.floor; check = meaning_of judge }
 
-abbrev pub contents_of : {S C : Type 0} → Meanings S C → Decoder S C → Contents
+abbrev pub contents_of : {S C : Type 0} → Meanings S C → State S C → Contents
 contents_of m d = contents_in (path_at d.rows) (m.kept d.store) (m.capacity d.store) (m.floor d.store)
 
 -- the loaded state, in a phase
-abbrev pub loaded_in : {S C : Type 0} → Meanings S C → Decoder S C → search.Phase → search.Loaded Contents
+abbrev pub loaded_in : {S C : Type 0} → Meanings S C → State S C → search.Phase → search.Loaded Contents
 loaded_in m d phase = record {
   block = block_of (plan_in d.block) (llr_in d.block) (m.check d.check);
   most_failures = d.counts.most_failures;
@@ -50,10 +50,10 @@ phase_in paths phase.Searching = search.Searching
 phase_in paths (phase.Shown c) = search.Shown (candidate_in paths c)
 phase_in paths phase.Ended = search.Ended
 
-abbrev pub phase_of : {S C : Type 0} → Meanings S C → Decoder S C → search.Phase
+abbrev pub phase_of : {S C : Type 0} → Meanings S C → State S C → search.Phase
 phase_of m d = phase_in (path_at d.rows) d.phase
 
-abbrev pub loaded_of : {S C : Type 0} → Meanings S C → Decoder S C → search.Loaded Contents
+abbrev pub loaded_of : {S C : Type 0} → Meanings S C → State S C → search.Loaded Contents
 loaded_of m d = loaded_in m d (phase_of m d)
 
 abbrev pub unless_blank : Phase → Contents → search.Loaded Contents → search.Decoder Contents
@@ -63,7 +63,7 @@ unless_blank (phase.Shown c) s d = search.Busy d
 unless_blank phase.Ended s d = search.Busy d
 
 -- the decoder as the search sees it
-abbrev pub model_of : {S C : Type 0} → Meanings S C → Decoder S C → search.Decoder Contents
+abbrev pub model_of : {S C : Type 0} → Meanings S C → State S C → search.Decoder Contents
 model_of m d = unless_blank d.phase (contents_of m d) (loaded_of m d)
 
 -- a decoder that never was loaded, over a store that may keep anything: every path is of zeros
@@ -76,7 +76,7 @@ RowsApart [] = Unit {0}
 RowsApart (c ∷ cs) = (holds_row c.row cs ≡ false) × RowsApart cs
 
 -- a word that is shown is whole, and the check accepts its information bits
-abbrev pub ShownWhole : {S C : Type 0} → Meanings S C → Decoder S C → Phase → Type 0
+abbrev pub ShownWhole : {S C : Type 0} → Meanings S C → State S C → Phase → Type 0
 ShownWhole m d phase.Blank = Unit {0}
 ShownWhole m d phase.Searching = Unit {0}
 ShownWhole m d (phase.Shown c) =
@@ -86,7 +86,7 @@ ShownWhole m d phase.Ended = Unit {0}
 
 -- What the calls keep between them, once a block is loaded: every kept candidate has a lawful path and its exact cost,
 -- no two share a row, a step uses up two serials at most, and a shown word is whole.
-pub record Sound {S C : Type 0} (m : Meanings S C) (d : Decoder S C) : Type 0 where
+pub record Sound {S C : Type 0} (m : Meanings S C) (d : State S C) : Type 0 where
   pub exact : AllExact ruled (loaded_of m d)
   pub apart : RowsApart (m.kept d.store)
   pub serials : d.counts.serial ≤ 2 * d.counts.steps + 1
@@ -98,5 +98,5 @@ OnceLoaded phase.Searching P = P
 OnceLoaded (phase.Shown c) P = P
 OnceLoaded phase.Ended P = P
 
-abbrev pub Coherent : {S C : Type 0} → Meanings S C → Decoder S C → Type 0
+abbrev pub Coherent : {S C : Type 0} → Meanings S C → State S C → Type 0
 Coherent m d = OnceLoaded d.phase (Sound m d)

@@ -9,25 +9,25 @@ use Rattle.model.specs.Blocks.{path_cost}
 use Rattle.model.specs.Reading.{first_bits}
 use Rattle.decoder.specs.Blocks.{plan_in, llr_in}
 use Rattle.decoder.specs.States.{Meanings}
-use Rattle.decoder.specs.declared.decoder.Decoder.{Decoder}
+use Rattle.decoder.specs.declared.state.State.{State}
 use Rattle.decoder.specs.declared.phase.Phase.TheVariants as phase
 
-abbrev pub path_of : {S C : Type 0} → Decoder S C → Candidate → List Bool
+abbrev pub path_of : {S C : Type 0} → State S C → Candidate → List Bool
 path_of d c = first_bits (path_at d.rows c.row) c.length
 
 -- the next serial is later than all kept ones, and another may follow it
-pub record Ready {S C : Type 0} (m : Meanings S C) (d : Decoder S C) : Type 0 where
+pub record Ready {S C : Type 0} (m : Meanings S C) (d : State S C) : Type 0 where
   pub phase : d.phase ≡ phase.Searching
   pub later : Each (λ k. k.serial < d.counts.serial) (m.kept d.store)
   pub fits : d.counts.serial < 4294967295
 
 -- the child of c that goes on with the bit costs `more` than c has for its metric
-pub record Costs {S C : Type 0} (d : Decoder S C) (c : Candidate) (bit : Bool) (more : ℕ) : Type 0 where
+pub record Costs {S C : Type 0} (d : State S C) (c : Candidate) (bit : Bool) (more : ℕ) : Type 0 where
   pub cost : c.metric + more ≡ path_cost (log_length (plan_in d.block)) (llr_in d.block) (child (path_of d c) bit)
   pub fits : c.metric + more < 4294967296
 
 -- what no part of a step touches
-pub record Framed {S C : Type 0} (before after : Decoder S C) : Type 0 where
+pub record Framed {S C : Type 0} (before after : State S C) : Type 0 where
   pub check : after.check ≡ before.check
   pub block : after.block ≡ before.block
   pub most_failures : after.counts.most_failures ≡ before.counts.most_failures
@@ -35,7 +35,7 @@ pub record Framed {S C : Type 0} (before after : Decoder S C) : Type 0 where
   pub steps : after.counts.steps ≡ before.counts.steps
 
 -- nor the putting of children
-pub record Searched {S C : Type 0} (before after : Decoder S C) : Type 0 where
+pub record Searched {S C : Type 0} (before after : State S C) : Type 0 where
   pub framed : Framed before after
   pub phase : after.phase ≡ before.phase
   pub failures : after.counts.failures ≡ before.counts.failures

@@ -3,21 +3,16 @@ mod advance;
 mod load;
 mod report;
 mod shown;
-mod step;
 
-use crate::block::Block;
-use crate::counts::Counts;
-use crate::phase::Phase;
-use cost::Rows;
+ghost use Rattle.decoder.specs.Single.{Coherent-prop};
+ghost use Rattle.decoder.specs.States.{meanings, Coherent};
+
+use crate::state::State;
+use outer::Judge;
+use store::Store;
 
 #[derive(Drop)]
-pub struct Decoder<S, C> {
-    store: S,
-    check: C,
-    // the loaded block
-    block: Block,
-    // the paths of the kept candidates, and of the one that is shown
-    rows: Rows,
-    counts: Counts,
-    phase: Phase,
+pub struct Decoder<S: Store, C: Judge> {
+    state: State<S, C>,
+    ghost coherent: { Coherent (meanings S.Store C.Judge) state } by { Coherent-prop (meanings S.Store C.Judge) state },
 }

@@ -7,9 +7,7 @@ impl Drop for Wiped<'_> {
     fn drop(self)
         ensures { self.exit.0.now ≡ replicate (length self.entry.0.now) (pos 0) }
     {
-        for x in self.0.iter_mut() {
-            *x = 0;
-        }
+        self.0.fill(0);
         let Wiped(_) = self;
     }
 }

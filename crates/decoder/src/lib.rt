@@ -10,6 +10,7 @@ mod path;
 mod phase;
 mod report;
 mod rows;
+mod state;
 
 pub use decoder::Decoder;
 pub use limits::Limits;

@@ -6,28 +6,15 @@ use store::Store;
 
 const ROWS: u8 = 129;
 
-// The first free row. There are more rows than any store may keep candidates.
-fn first_free<S: Store>(store: &S) -> u8
-    ensures free { holds_row result (S.kept store.now) ≡ false }
-    ensures inside { result < 129 }
-{
-    for row in 0..ROWS {
-        if !store.holds_row(row) {
-            return row;
-        }
-    }
-    unreachable()
-}
-
-// The first free row from a likely one on, or else the first of all.
+// The first free row from a likely one on, or else the first of all. There are more rows than any store may keep
+// candidates.
 pub fn free_row<S: Store>(store: &S, likely: u8) -> u8
     ensures free { holds_row result (S.kept store.now) ≡ false }
     ensures inside { result < 129 }
 {
-    for row in likely..ROWS {
-        if !store.holds_row(row) {
-            return row;
-        }
+    let mut rows = (likely..ROWS).chain(0..ROWS);
+    match rows.find(|row| !store.holds_row(*row)) {
+        Some(row) => row,
+        None => unreachable(),
     }
-    first_free(store)
 }

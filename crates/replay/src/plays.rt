@@ -2,7 +2,7 @@
 ghost use Rattle.std.specs.Prelude.{◌≡◌, length, take, drop};
 ghost use Rattle.decoder.specs.Answers.{reported};
 ghost use Rattle.replay.specs.Plays.{KeptBy, call_of, heard, held, output_left, scratch_left};
-ghost use Rattle.decoder.specs.States.{meanings, model_of, Coherent};
+ghost use Rattle.decoder.specs.States.{meanings, model_of};
 ghost use Rattle.search.specs.Calls as search;
 ghost use Rattle.search.specs.Search.{called};
 ghost use Rattle.search.specs.Stores.{ruled};
@@ -49,11 +49,10 @@ fn play_advance<S: Store, C: Judge>(
     budget: u32,
     scratch: &mut [i32],
 ) -> Answer
-    ensures model { Coherent (meanings S.Store C.Judge) decoder.old → model_of (meanings S.Store C.Judge) decoder.new ≡ (called ruled (model_of (meanings S.Store C.Judge) decoder.old) (search.Advance budget (length scratch.old))).0 }
-    ensures answer { Coherent (meanings S.Store C.Judge) decoder.old → result ≡ heard (called ruled (model_of (meanings S.Store C.Judge) decoder.old) (search.Advance budget (length scratch.old))).1 }
-    ensures coherent { Coherent (meanings S.Store C.Judge) decoder.old → Coherent (meanings S.Store C.Judge) decoder.new }
-    ensures check { decoder.new.check ≡ decoder.old.check }
-    ensures scratch { Coherent (meanings S.Store C.Judge) decoder.old → scratch.new ≡ scratch_left (model_of (meanings S.Store C.Judge) decoder.old) (called ruled (model_of (meanings S.Store C.Judge) decoder.old) (search.Advance budget (length scratch.old))).1 scratch.old }
+    ensures model { model_of (meanings S.Store C.Judge) decoder.new.state ≡ (called ruled (model_of (meanings S.Store C.Judge) decoder.old.state) (search.Advance budget (length scratch.old))).0 }
+    ensures answer { result ≡ heard (called ruled (model_of (meanings S.Store C.Judge) decoder.old.state) (search.Advance budget (length scratch.old))).1 }
+    ensures check { decoder.new.state.check ≡ decoder.old.state.check }
+    ensures scratch { scratch.new ≡ scratch_left (model_of (meanings S.Store C.Judge) decoder.old.state) (called ruled (model_of (meanings S.Store C.Judge) decoder.old.state) (search.Advance budget (length scratch.old))).1 scratch.old }
     ensures refused { (KeptBy result decoder.old decoder.new) × (KeptBy result scratch.old scratch.new) }
 {
     match decoder.advance(budget, scratch) {
@@ -64,8 +63,8 @@ fn play_advance<S: Store, C: Judge>(
 
 // A word call with all of output.
 fn play_word<S: Store, C: Judge>(decoder: &Decoder<S, C>, output: &mut [u8]) -> Answer
-    ensures answer { Coherent (meanings S.Store C.Judge) decoder.now → result ≡ heard (called ruled (model_of (meanings S.Store C.Judge) decoder.now) (search.Word (length output.old))).1 }
-    ensures output { Coherent (meanings S.Store C.Judge) decoder.now → output.new ≡ output_left (model_of (meanings S.Store C.Judge) decoder.now) (called ruled (model_of (meanings S.Store C.Judge) decoder.now) (search.Word (length output.old))).1 output.old }
+    ensures answer { result ≡ heard (called ruled (model_of (meanings S.Store C.Judge) decoder.now.state) (search.Word (length output.old))).1 }
+    ensures output { output.new ≡ output_left (model_of (meanings S.Store C.Judge) decoder.now.state) (called ruled (model_of (meanings S.Store C.Judge) decoder.now.state) (search.Word (length output.old))).1 output.old }
     ensures refused { KeptBy result output.old output.new }
 {
     match decoder.word(output) {
@@ -82,12 +81,11 @@ pub fn play<S: Store, C: Judge>(
     scratch: &mut [i32],
     output: &mut [u8],
 ) -> Answer
-    ensures model { Coherent (meanings S.Store C.Judge) decoder.old → model_of (meanings S.Store C.Judge) decoder.new ≡ (called ruled (model_of (meanings S.Store C.Judge) decoder.old) (call_of C.Judge decoder.old.check values.now (length scratch.old) (length output.old) call)).0 }
-    ensures answer { Coherent (meanings S.Store C.Judge) decoder.old → result ≡ heard (called ruled (model_of (meanings S.Store C.Judge) decoder.old) (call_of C.Judge decoder.old.check values.now (length scratch.old) (length output.old) call)).1 }
-    ensures coherent { Coherent (meanings S.Store C.Judge) decoder.old → Coherent (meanings S.Store C.Judge) decoder.new }
-    ensures check { decoder.new.check ≡ decoder.old.check }
-    ensures scratch { Coherent (meanings S.Store C.Judge) decoder.old → scratch.new ≡ scratch_left (model_of (meanings S.Store C.Judge) decoder.old) (called ruled (model_of (meanings S.Store C.Judge) decoder.old) (call_of C.Judge decoder.old.check values.now (length scratch.old) (length output.old) call)).1 scratch.old }
-    ensures output { Coherent (meanings S.Store C.Judge) decoder.old → output.new ≡ output_left (model_of (meanings S.Store C.Judge) decoder.old) (called ruled (model_of (meanings S.Store C.Judge) decoder.old) (call_of C.Judge decoder.old.check values.now (length scratch.old) (length output.old) call)).1 output.old }
+    ensures model { model_of (meanings S.Store C.Judge) decoder.new.state ≡ (called ruled (model_of (meanings S.Store C.Judge) decoder.old.state) (call_of C.Judge decoder.old.state.check values.now (length scratch.old) (length output.old) call)).0 }
+    ensures answer { result ≡ heard (called ruled (model_of (meanings S.Store C.Judge) decoder.old.state) (call_of C.Judge decoder.old.state.check values.now (length scratch.old) (length output.old) call)).1 }
+    ensures check { decoder.new.state.check ≡ decoder.old.state.check }
+    ensures scratch { scratch.new ≡ scratch_left (model_of (meanings S.Store C.Judge) decoder.old.state) (called ruled (model_of (meanings S.Store C.Judge) decoder.old.state) (call_of C.Judge decoder.old.state.check values.now (length scratch.old) (length output.old) call)).1 scratch.old }
+    ensures output { output.new ≡ output_left (model_of (meanings S.Store C.Judge) decoder.old.state) (called ruled (model_of (meanings S.Store C.Judge) decoder.old.state) (call_of C.Judge decoder.old.state.check values.now (length scratch.old) (length output.old) call)).1 output.old }
     ensures refused { (KeptBy result decoder.old decoder.new) × ((KeptBy result scratch.old scratch.new) × (KeptBy result output.old output.new)) }
 {
     match call {

@@ -7,5 +7,5 @@ use Rattle.decoder.proofs.path.gather.Given as goal
 
 abbrev pub invariant-loop-i : goal.invariant-loop-i
 invariant-loop-i l =
-    (take l.count l.word ≡ information_from (kinds_of l.plan) 0 (first_bits (row_bit l.path) l.i))
-    × (l.count ≤ l.i) × (length l.word ≡ 1024)
+    (take l.count l.room ≡ information_from (kinds_of l.plan) 0 (first_bits (row_bit l.path) l.i))
+    × (l.count ≤ l.i) × (length l.room ≡ 1024)

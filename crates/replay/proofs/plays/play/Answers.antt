@@ -11,46 +11,44 @@ use Rattle.replay.proofs.plays.play.Goals as goal
 pub returns-in-Advance : goal.returns-in-Advance
 returns-in-Advance g c =
     let m = meanings g.S.Store g.C.Judge in
-    let d = model_of m c.args.decoder.now in
+    let d = model_of m c.args.decoder.now.state in
     let scratch = c.args.scratch.now in
     let output = c.args.output.now in
     let room = c.min-room.result in
-    let call = call_of g.C.Judge c.args.decoder.now.check c.args.values.now (length scratch) (length output) in
+    let call = call_of g.C.Judge c.args.decoder.now.state.check c.args.values.now (length scratch) (length output) in
     let same : search.Advance c.in-Advance.budget (length (take (room - 0) scratch)) ≡ call c.args.call =
     ap (search.Advance c.in-Advance.budget) (front_length c.in-Advance.words room scratch c.min-room.ensures) ∙ sym (ap call c.in-Advance.is) in
     let e = c.play_advance.ensures in
     record {
-      model = λ h. e.model h ∙ ap (λ q. (called ruled d q).0) same;
-      answer = λ h. e.answer h ∙ ap (λ q. heard (called ruled d q).1) same;
-      coherent = e.coherent;
+      model = e.model ∙ ap (λ q. (called ruled d q).0) same;
+      answer = e.answer ∙ ap (λ q. heard (called ruled d q).1) same;
       check = e.check;
-      scratch = λ h.
-          scratch-whole d (called ruled d (search.Advance c.in-Advance.budget (length (take (room - 0) scratch)))).1 (room - 0) scratch c.play_advance.new.scratch (e.scratch h) c.play_advance.auto.scratch
+      scratch =
+          scratch-whole d (called ruled d (search.Advance c.in-Advance.budget (length (take (room - 0) scratch)))).1 (room - 0) scratch c.play_advance.new.scratch e.scratch c.play_advance.auto.scratch
           ∙ ap (λ q. scratch_left d (called ruled d q).1 scratch) same;
-      output = λ h. advance-spares d c.in-Advance.budget (length (take (room - 0) scratch)) output ∙ ap (λ q. output_left d (called ruled d q).1 output) same;
+      output = advance-spares d c.in-Advance.budget (length (take (room - 0) scratch)) output ∙ ap (λ q. output_left d (called ruled d q).1 output) same;
       refused = (e.refused.0, (kept_whole c.play_advance.result (room - 0) scratch c.play_advance.new.scratch e.refused.1, kept_same c.play_advance.result output));
     }
 
 pub returns-in-Word : goal.returns-in-Word
 returns-in-Word g c =
     let m = meanings g.S.Store g.C.Judge in
-    let d = model_of m c.args.decoder.now in
+    let d = model_of m c.args.decoder.now.state in
     let scratch = c.args.scratch.now in
     let output = c.args.output.now in
     let room = c.min-room-in-Word.result in
-    let call = call_of g.C.Judge c.args.decoder.now.check c.args.values.now (length scratch) (length output) in
+    let call = call_of g.C.Judge c.args.decoder.now.state.check c.args.values.now (length scratch) (length output) in
     let same : search.Word (length (take (room - 0) output)) ≡ call c.args.call =
     ap search.Word (front_length c.in-Word.bytes room output c.min-room-in-Word.ensures) ∙ sym (ap call c.in-Word.is) in
     let spares = word-spares d (length (take (room - 0) output)) scratch in
     let e = c.play_word.ensures in
     record {
-      model = λ h. sym spares.0 ∙ ap (λ q. (called ruled d q).0) same;
-      answer = λ h. e.answer h ∙ ap (λ q. heard (called ruled d q).1) same;
-      coherent = λ h. h;
+      model = sym spares.0 ∙ ap (λ q. (called ruled d q).0) same;
+      answer = e.answer ∙ ap (λ q. heard (called ruled d q).1) same;
       check = refl;
-      scratch = λ h. spares.1 ∙ ap (λ q. scratch_left d (called ruled d q).1 scratch) same;
-      output = λ h.
-          output-whole d (called ruled d (search.Word (length (take (room - 0) output)))).1 (room - 0) output c.play_word.new.output (e.output h) c.play_word.auto.output
+      scratch = spares.1 ∙ ap (λ q. scratch_left d (called ruled d q).1 scratch) same;
+      output =
+          output-whole d (called ruled d (search.Word (length (take (room - 0) output)))).1 (room - 0) output c.play_word.new.output e.output c.play_word.auto.output
           ∙ ap (λ q. output_left d (called ruled d q).1 output) same;
       refused = (kept_same c.play_word.result c.args.decoder.now, (kept_same c.play_word.result scratch, kept_whole c.play_word.result (room - 0) output c.play_word.new.output e.refused));
     }

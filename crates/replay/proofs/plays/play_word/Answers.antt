@@ -6,11 +6,11 @@ use Rattle.replay.proofs.plays.play_word.Goals as goal
 pub returns-in-Ok : goal.returns-in-Ok
 returns-in-Ok g c =
     let m = meanings g.S.Store g.C.Judge in
-    let d = model_of m c.args.decoder.now in
+    let d = model_of m c.args.decoder.now.state in
     let after = c.word.new.output in
     let e = c.in-Ok.ensures in
     record {
-      answer = λ h. word-heard (payload_in d) _ c.payload_of.result after e.answer c.payload_of.ensures (e.output h);
-      output = λ h. word-written d (payload_in d) _ c.args.output.now after e.answer (e.output h) c.word.auto.output;
+      answer = word-heard (payload_in d) _ c.payload_of.result after e.answer c.payload_of.ensures e.output;
+      output = word-written d (payload_in d) _ c.args.output.now after e.answer e.output c.word.auto.output;
       refused = tt;
     }

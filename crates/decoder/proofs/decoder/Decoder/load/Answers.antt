@@ -9,14 +9,13 @@ use Rattle.decoder.proofs.decoder.Decoder.load.Goals as goal
 
 pub returns : goal.returns
 returns g c =
-    let d = c.args.self.now in
+    let d = c.args.self.now.state in
     let m = meanings g.S.Store g.C.Judge in
     let granted = c.in_ok-block.ensures.0 in
     let model : model_of m c.start.new.self ≡ (called ruled (model_of m d) (Load (request_of g.C.Judge d.check c.args.plan.now c.args.llrs.now c.args.limits))).0 = search rules in
     record {
       model = model;
       answer = search rules;
-      coherent = search rules;
       check = search rules;
       clean = λ _. clean-first g.C.Judge d.check c.args.plan.now c.args.llrs.now c.args.limits (model_of m d) (model_of m c.start.new.self) (g.met.C.Judge.accepted_hopeful d.check) granted model;
       refused = search rules;
