@@ -1,11 +1,12 @@
 -- From the choice of kinds to a lawful plan, and what a request within its limits says. Assumes nothing.
-use Rattle.std.proofs.Common.{◌≡◌, ℕ, ◌+◌, ◌-◌, ◌≤◌, Bool, true, false, not, ◌||◌, ltb, List, map, get_or, set, replicate, sym, refl, ap, ◌∙◌, subst, inl, inr, zero-add, arith, lit≤, pow_mono}
+use Rattle.std.proofs.Common.{◌≡◌, ℕ, ◌+◌, ◌-◌, ◌≤◌, Bool, true, false, cond, not, ◌||◌, ltb, List, map, get_or, set, replicate, sym, refl, ap, ◌∙◌, subst, ap₂, Some, None, inl, inr, zero-add, arith, lit≤, pow_mono}
 use mathlib.Core.Path.{fun_ext}
 use Rattle.std.proofs.lemmas.List.{get_or-set_other, get_or-replicate, get_or_past, length-replicate}
 use Rattle.std.proofs.lemmas.List.FromFn.{get_or-map-range_with_len}
 use Rattle.std.specs.List.{range_with_len}
 use Rattle.std.proofs.lemmas.Bool.{cases_lt, or_left}
 use Rattle.std.proofs.lemmas.Bool.Decides.{nat_tests}
+use Rattle.base.specs.declared.refusal.Refusal.TheVariants.{Limits, Crowded}
 use Rattle.base.specs.Counts.{any_below, count_below, sum_below}
 use Rattle.base.proofs.Counts.{count_same}
 use Rattle.plan.specs.declared.kind.Kind.{Kind}
@@ -17,7 +18,7 @@ use Rattle.plan.specs.Laws.{Counted}
 use Rattle.plan.specs.Order.{pattern, sent_by, barred_in}
 use Rattle.plan.specs.Plans.{builtin_request}
 use Rattle.plan.specs.Reliability.{weight, more_reliable}
-use Rattle.plan.specs.Requests.{length_for, word_for, mode_for, barred_for, kind_for, within_limits}
+use Rattle.plan.specs.Requests.{length_for, word_for, mode_for, barred_for, kind_for, within_limits, crowded, verdict}
 use Rattle.plan.proofs.Ladder.{reliability-total}
 use Rattle.plan.proofs.Ranks.{kinds-counted, kind-longer, open-longer, barred-frozen, beyond-frozen}
 use Rattle.plan.proofs.Sent.{mode-bounded, sent-inside}
@@ -47,6 +48,9 @@ lawful q kinds enough by_rank =
       unbarred = λ i h. by_rank i ∙ barred-frozen more_reliable (barred_for q) (length_for q) (word_for q) q.parity i h;
       beyond = λ i h. by_rank i ∙ beyond-frozen more_reliable (barred_for q) (length_for q) (word_for q) q.parity i h;
     }
+
+pub verdict-within : (q : Request) (b : Bool) → within_limits q ≡ true → crowded q ≡ b → verdict q ≡ cond b (Some Crowded) None
+verdict-within q b within h = ap₂ (λ w d. cond w (cond d (Some Crowded) None) (Some Limits)) within h
 
 -- a request within its limits, its mode and marks
 pub record Matched (q : Request) (mode : Mode) (marks : List Bool) : Type 0 where
