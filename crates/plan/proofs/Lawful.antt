@@ -1,11 +1,12 @@
 -- From the choice of kinds to a lawful plan, and what a request within its limits says. Assumes nothing.
-use Rattle.std.proofs.Common.{◌≡◌, ℕ, ◌+◌, ◌-◌, ◌^◌, ◌≤◌, Bool, true, false, not, ◌||◌, eqb, ltb, List, map, get_or, set, replicate, sym, refl, ap, ◌∙◌, subst, inl, inr, zero-add, arith, lit≤, pow_mono}
+use Rattle.std.proofs.Common.{◌≡◌, ℕ, ◌+◌, ◌-◌, ◌≤◌, Bool, true, false, cond, not, ◌||◌, ltb, List, map, get_or, set, replicate, sym, refl, ap, ◌∙◌, subst, ap₂, Some, None, inl, inr, zero-add, arith, lit≤, pow_mono}
 use mathlib.Core.Path.{fun_ext}
 use Rattle.std.proofs.lemmas.List.{get_or-set_other, get_or-replicate, get_or_past, length-replicate}
 use Rattle.std.proofs.lemmas.List.FromFn.{get_or-map-range_with_len}
 use Rattle.std.specs.List.{range_with_len}
 use Rattle.std.proofs.lemmas.Bool.{cases_lt, or_left}
 use Rattle.std.proofs.lemmas.Bool.Decides.{nat_tests}
+use Rattle.base.specs.declared.refusal.Refusal.TheVariants.{Limits, Crowded}
 use Rattle.base.specs.Counts.{any_below, count_below, sum_below}
 use Rattle.base.proofs.Counts.{count_same}
 use Rattle.plan.specs.declared.kind.Kind.{Kind}
@@ -17,29 +18,14 @@ use Rattle.plan.specs.Laws.{Counted}
 use Rattle.plan.specs.Order.{pattern, sent_by, barred_in}
 use Rattle.plan.specs.Plans.{builtin_request}
 use Rattle.plan.specs.Reliability.{weight, more_reliable}
-use Rattle.plan.specs.Requests.{length_for, word_for, mode_for, barred_for, kind_for, within_limits}
+use Rattle.plan.specs.Requests.{length_for, word_for, mode_for, barred_for, kind_for, within_limits, crowded, verdict}
 use Rattle.plan.proofs.Ladder.{reliability-total}
 use Rattle.plan.proofs.Ranks.{kinds-counted, kind-longer, open-longer, barred-frozen, beyond-frozen}
 use Rattle.plan.proofs.Sent.{mode-bounded, sent-inside}
 
--- what the limits say, one by one
-pub record Limited (q : Request) : Type 0 where
-  pub sized : (5 ≤ q.n) × (q.n ≤ 10)
-  pub paid : (1 ≤ q.payload) × (q.payload ≤ 512)
-  pub guarded : q.check_bits ≤ 24
-  pub aired : (1 ≤ q.sent) × (q.sent ≤ 8192)
-  pub lowered : q.low ≤ 2 ^ q.n
-  pub paired : (eqb q.parity 0 || eqb q.parity 3) ≡ true
-
-pub limited : (q : Request) → within_limits q ≡ true → Limited q
-limited q h = record {
-  sized = (grind (arith, nat_tests), grind (arith, nat_tests));
-  paid = (grind (arith, nat_tests), grind (arith, nat_tests));
-  guarded = grind (arith, nat_tests);
-  aired = (grind (arith, nat_tests), grind (arith, nat_tests));
-  lowered = grind (arith, nat_tests);
-  paired = grind (arith, nat_tests);
-}
+-- what the limits say of n
+sized : (q : Request) → within_limits q ≡ true → (5 ≤ q.n) × (q.n ≤ 10)
+sized q h = (grind (arith, nat_tests), grind (arith, nat_tests))
 
 -- the invariant of a plan, of a table of kinds
 pub record Lawful (q : Request) (kinds : List Kind) : Type 0 where
@@ -63,6 +49,9 @@ lawful q kinds enough by_rank =
       beyond = λ i h. by_rank i ∙ beyond-frozen more_reliable (barred_for q) (length_for q) (word_for q) q.parity i h;
     }
 
+pub verdict-within : (q : Request) (b : Bool) → within_limits q ≡ true → crowded q ≡ b → verdict q ≡ cond b (Some Crowded) None
+verdict-within q b within h = ap₂ (λ w d. cond w (cond d (Some Crowded) None) (Some Limits)) within h
+
 -- a request within its limits, its mode and marks
 pub record Matched (q : Request) (mode : Mode) (marks : List Bool) : Type 0 where
   pub within : within_limits q ≡ true
@@ -76,10 +65,10 @@ module _ (q : Request) (mode : Mode) (marks : List Bool) (h : Matched q mode mar
   barred-beyond : (i : ℕ) → length_for q ≤ i → barred_for q i ≡ true
   barred-beyond i l =
       or_left (not (sent_by (mode_for q) q.n q.sent i)) (ltb i q.low)
-      (ap not (sent-inside (mode_for q) q.n q.sent (limited q h.within).sized.0 (mode-bounded q.n (word_for q) q.sent) i l))
+      (ap not (sent-inside (mode_for q) q.n q.sent (sized q h.within).0 (mode-bounded q.n (word_for q) q.sent) i l))
 
   whole : 1024 - length_for q + length_for q ≡ 1024
-  whole = omega (arith, pow_mono (limited q h.within).sized.1)
+  whole = omega (arith, pow_mono (sized q h.within).1)
 
   -- the choice over all 1,024 positions is the choice over the block
   pub matched-kinds : (i : ℕ) → kind_by more_reliable (barred_in marks q.low) 1024 (word_for q) q.parity i ≡ kind_for q i

@@ -5,6 +5,7 @@ use Rattle.base.specs.Counts.{count_below}
 use Rattle.plan.specs.declared.kind.Kind.{Kind}
 use Rattle.plan.specs.declared.kind.Kind.TheVariants.{Frozen, Information, Parity}
 
+-- a kind as it prints
 abbrev pub kind_name : Kind → List ℕ
 kind_name Frozen = codes "frozen"
 kind_name Information = codes "information"

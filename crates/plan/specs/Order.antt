@@ -5,6 +5,7 @@ use Rattle.base.specs.Counts.{any_below}
 use Rattle.plan.specs.declared.mode.Mode.{Mode}
 use Rattle.plan.specs.declared.mode.Mode.TheVariants.{Repeat, Puncture, Shorten}
 
+-- a mode as it prints
 abbrev pub mode_name : Mode → List ℕ
 mode_name Repeat = codes "repeat"
 mode_name Puncture = codes "puncture"

@@ -3,7 +3,6 @@
 
 mod block_size;
 mod choice;
-mod draft;
 mod kind;
 mod laws;
 mod matching;

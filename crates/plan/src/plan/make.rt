@@ -1,12 +1,15 @@
 // Making a plan: the caller's place is written whole, or the request refused. Assumes nothing.
+ghost use Rattle.std.specs.Prelude.{◌≡◌, Some, None, IfOk, IfErr};
 ghost use Rattle.plan.specs.Plans.{Planned, Made, builtin_request};
+ghost use Rattle.plan.specs.Requests.{verdict};
 
 use crate::block_size::BlockSize;
-use crate::draft::{Draft, draft_of};
+use crate::choice::choose;
 use crate::kind::Kind;
 use crate::matching::Matching;
 use crate::mode::Mode;
 use crate::plan::Plan;
+use crate::quota::Quota;
 use crate::reliability::POSITIONS;
 use crate::request::Request;
 use base::Refusal;
@@ -40,21 +43,37 @@ impl Plan {
     pub fn make(&mut self, request: &Request) -> Result<(), Refusal>
         ensures { Made self.old request.now result self.new }
     {
+        *self = Plan::of(request)?;
+        Ok(())
+    }
+
+    // The plan that is asked for, or why there is none.
+    fn of(request: &Request) -> Result<Plan, Refusal>
+        ensures planned { IfOk result (Planned request.now) }
+        ensures granted { IfOk result (λ _. verdict request.now ≡ None) }
+        ensures refused { IfErr result (λ refusal. verdict request.now ≡ Some refusal) }
+    {
         if !request.within_limits() {
             return Err(Refusal::Limits);
         }
-        let Draft { mode, marks, kinds } = draft_of(request).ok_or(Refusal::Crowded)?;
-        *self = Plan {
+        let quota = Quota {
+            word: request.payload + u16::from(request.check_bits),
+            parity: request.parity,
+        };
+        let size = BlockSize { n: request.n };
+        let matching = Matching::new(size, quota.word, request.sent);
+        let marks = matching.marks();
+        let kinds = choose(&marks, request.low as usize, quota).ok_or(Refusal::Crowded)?;
+        Ok(Plan {
             n: request.n,
             payload: request.payload,
             check_bits: request.check_bits,
             sent: request.sent,
             low: request.low,
             parity: request.parity,
-            mode,
+            mode: matching.mode,
             marks,
             kinds,
-        };
-        Ok(())
+        })
     }
 }
