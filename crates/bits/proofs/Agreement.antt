@@ -1,9 +1,12 @@
 -- Numbers with the same lowest bits have the same remainder, and rows agree where their words do. Assumes nothing.
-use Rattle.std.proofs.Common.{◌≡◌, ℕ, zero, suc, ◌+◌, ◌*◌, ◌/◌, ◌%◌, ◌^◌, ◌<◌, Bool, true, false, eqb, List, get_or, sym, refl, ap, ◌∙◌, ap₂, inl, inr, mod-eq_of_lt, arith}
+use Rattle.std.proofs.Common.{◌≡◌, ℕ, zero, suc, ◌+◌, ◌*◌, ◌/◌, ◌%◌, ◌^◌, ◌<◌, ◌≤◌, Bool, true, false, eqb, List, length, get_or, take, sym, refl, ap, ◌∙◌, ap₂, inl, inr, mod-eq_of_lt, arith}
 use mathlib.Core.Bool.{beq}
 use Rattle.std.proofs.lemmas.Nat.{mod-pow-add}
 use Rattle.std.proofs.lemmas.Bool.{cases_Bool, cases_lt, eqb-true, eq-eqb}
-use Rattle.std.proofs.lemmas.Bool.Decides.{nat_tests}
+use Rattle.std.proofs.lemmas.Bool.Decides.{nat_tests, Decides-eqb}
+use Rattle.std.proofs.lemmas.List.{ext_get_or, get_or-take, length-take-le}
+use Rattle.std.proofs.lemmas.Slice.Eq.{slice_eq-Decides}
+use lib.Pointwise.{pointwise}
 use Rattle.base.specs.Bits.{bit_of}
 use Rattle.base.proofs.Bits.{bit-mod}
 use Rattle.base.proofs.Counts.{all-at, all_from}
@@ -71,16 +74,34 @@ same_word a b k j l h =
     λ c. ap₂ (λ (p q : ℕ). bit_of (get_or c p 0) q) word place in
     sym (at a) ∙ h ∙ at b
 
--- where a whole word differs, so do the rows
-pub word-differs : (a b : List ℕ) (n k : ℕ) → k < n / 64 → get_or a k 0 < 2 ^ 64 → get_or b k 0 < 2 ^ 64 → (get_or a k 0 ≡ get_or b k 0 → ⊥) → same_bits (words_bit a) (words_bit b) n ≡ false
-word-differs a b n k l fa fb other =
+-- what the test of the first n words says
+pub words-same : (a b : List ℕ) (n : ℕ) (r : Bool) → r ≡ pointwise eqb (take n a) (take n b) → r ≡ true → WordsSame a b n
+words-same a b n r is agree k l =
+    let same : take n a ≡ take n b = (slice_eq-Decides Decides-eqb (take n a) (take n b) r is).0 agree in
+    sym (get_or-take n a k 0 l) ∙ ap (λ (ws : List ℕ). get_or ws k 0) same ∙ get_or-take n b k 0 l
+
+abbrev pub Words64 : List ℕ → Type 0
+Words64 a = (k : ℕ) → get_or a k 0 < 2 ^ 64
+
+-- where whole words differ, so do the rows
+pub words-differ : (a b : List ℕ) (n : ℕ) (r : Bool) → length a ≡ length b → n / 64 ≤ length a → Words64 a → Words64 b
+    → r ≡ pointwise eqb (take (n / 64) a) (take (n / 64) b) → r ≡ false → r ≡ same_bits (words_bit a) (words_bit b) n
+words-differ a b n r long room fa fb is differ =
     elim (cases_Bool (same_bits (words_bit a) (words_bit b) n)) [
       | inl h ↦
-          absurd (other (
-          sym (mod-eq_of_lt fa)
+          let whole : (k : ℕ) → k < n / 64 → get_or a k 0 ≡ get_or b k 0 = λ k l.
+          sym (mod-eq_of_lt (fa k))
           ∙ remainder-same (get_or a k 0) (get_or b k 0) 64 (λ j low. same_word a b k j low (bits_at (words_bit a) (words_bit b) n h (64 * k + j) (omega arith)))
-          ∙ mod-eq_of_lt fb))
-      | inr h ↦ h
+          ∙ mod-eq_of_lt (fb k) in
+          let size-a : length (take (n / 64) a) ≡ n / 64 = length-take-le (n / 64) a room in
+          let size-b : length (take (n / 64) b) ≡ n / 64 = length-take-le (n / 64) b (omega arith) in
+          let same : take (n / 64) a ≡ take (n / 64) b =
+          ext_get_or 0 (take (n / 64) a) (take (n / 64) b) (size-a ∙ sym size-b)
+          (λ k l.
+          let low : k < n / 64 = omega arith in
+          get_or-take (n / 64) a k 0 low ∙ whole k low ∙ sym (get_or-take (n / 64) b k 0 low)) in
+          (slice_eq-Decides Decides-eqb (take (n / 64) a) (take (n / 64) b) r is).1 same ∙ sym h
+      | inr h ↦ differ ∙ sym h
     ]
 
 -- where all whole words are the same, the bits of the next one decide

@@ -1,10 +1,14 @@
 -- A stage of the butterfly turns the transforms of the blocks of 2 ^ s bits into those of the blocks of 2 ^ (s + 1). Assumes nothing.
-use Rattle.std.proofs.Common.{◌≡◌, ℕ, suc, ◌+◌, ◌-◌, ◌*◌, ◌/◌, ◌%◌, ◌^◌, ◌<◌, ◌≤◌, Bool, true, false, cond, eqb, sym, ap, ◌∙◌, inl, inr, mod-eq_of_lt, mul_assoc, mul_comm, add-mul, arith}
+use Rattle.std.proofs.Common.{◌≡◌, ℕ, suc, ◌+◌, ◌-◌, ◌*◌, ◌/◌, ◌%◌, ◌^◌, ◌<◌, ◌≤◌, Bool, true, false, cond, eqb, List, [], ◌∷◌, ◌++◌, length, get_or, sym, refl, ap, ◌∙◌, inl, inr, mod-eq_of_lt, mul_assoc, mul_comm, add-mul, arith}
 use mathlib.Core.Bool.{xor}
 use native.Mathlib.Nat.{div-eq_of_lt, add-mul-div_right, add-mul-mod_self_right, mul-mod_left, pow-succ'}
 use lib.Pow.{split}
 use Rattle.std.proofs.lemmas.Nat.{pow_pos, pow-add, shr-shr, mod-pow-add, mod_below, div_below, mul-le, div-mul-add, mod-mul-add}
 use Rattle.std.proofs.lemmas.Bool.{eq-eqb, ne_eqb, cases_eq}
+use Rattle.std.proofs.lemmas.List.{get_or_append_left, get_or_push, length_push}
+use Rattle.std.proofs.lemmas.List.FromFn.{get_or-range_with_len, length-range_with_len}
+use Rattle.std.specs.List.{range_with_len}
+use Rattle.base.specs.Bits.{bit_of}
 use Rattle.base.specs.Counts.{xor_below}
 use Rattle.base.specs.Transform.{code_bit}
 use Rattle.base.proofs.Transform.{code-bit-low, code-bit-high, code-bit-same, xor-false-l}
@@ -152,3 +156,30 @@ block-bit-at n u base i h l =
     ap (λ (m : ℕ). block_bit n u (m + i)) (sym whole)
     ∙ ap (λ (m : ℕ). code_bit n (λ j. u (m + j)) ((base / 2 ^ n * 2 ^ n + i) % 2 ^ n)) start
     ∙ ap (code_bit n (λ j. u (base + j))) place
+
+-- the first n stages were made in order
+abbrev pub InOrder : List ℕ → Type 0
+InOrder stages = (i : ℕ) → i < length stages → get_or stages i 0 ≡ i
+
+-- what has become of the word x after some stages, where they were made in order
+abbrev pub Staged : ℕ → List ℕ → ℕ → Type 0
+Staged x stages y = InOrder stages → length stages ≤ 6 → (k : ℕ) → k < 64 → bit_of y k ≡ block_bit (length stages) (bit_of x) k
+
+pub staged_more : (x : ℕ) (stages : List ℕ) (y s z : ℕ) → Staged x stages y
+    → (s < 6 → (k : ℕ) → k < 64 → bit_of z k ≡ stage_bit s (bit_of y) k) → Staged x (stages ++ s ∷ []) z
+staged_more x stages y s z before step order room k l =
+    let n : ℕ = length stages in
+    let long : length (stages ++ s ∷ []) ≡ n + 1 = length_push stages s in
+    let here : s ≡ n = sym (get_or_push stages s 0 n refl) ∙ order n (omega arith) in
+    let front : InOrder stages = λ i low. sym (get_or_append_left stages (s ∷ []) 0 i low) ∙ order i (omega arith) in
+    let next : suc n ≡ length (stages ++ s ∷ []) = omega arith in
+    let whole : suc n ≤ 6 = omega arith in
+    let made : (j : ℕ) → j < 64 → bit_of z j ≡ stage_bit n (bit_of y) j = λ j low.
+    step (omega arith) j low ∙ ap (λ (m : ℕ). stage_bit m (bit_of y) j) here in
+    stage-more n 64 (bit_of x) (bit_of y) (bit_of z) (pow-whole (suc n) 6 whole) (before front (omega arith)) made k l
+    ∙ ap (λ (m : ℕ). block_bit m (bit_of x) k) next
+
+pub range-in_order : (n : ℕ) → InOrder (range_with_len 0 n)
+range-in_order n i l =
+    let low : i < n = omega (arith, length-range_with_len 0 n) in
+    get_or-range_with_len 0 n i 0 low ∙ omega arith

@@ -66,9 +66,7 @@ mod tests {
         let mut row = Row::zero();
         row.set(1023, true);
         row.transform(10);
-        for k in 0..1024 {
-            assert!(rt; row.get(k));
-        }
+        assert!(rt; (0..1024).all(|k| row.get(k)));
         assert!(rt; !row.get(1024));
     }
 
@@ -78,9 +76,7 @@ mod tests {
         let mut row = Row::zero();
         row.set(576, true);
         row.transform_block(512, 7);
-        for k in 0..1024 {
-            assert_eq!(rt; row.get(k), k == 512 || k == 576);
-        }
+        assert!(rt; (0..1024).all(|k| row.get(k) == (k == 512 || k == 576)));
         row.transform_block(64, 7);
         assert!(rt; !row.get(64) && row.get(512) && row.get(576));
     }

@@ -15,6 +15,7 @@ const STAGE_MASKS: [u64; 6] = [
     0x0000_0000_ffff_ffff,
 ];
 
+// Places are numbers below 64: a type for them would be made at each call and taken apart in each body.
 pub fn bit(x: u64, k: usize) -> bool
     requires width { k < 64 }
     ensures { result ≡ bit_of x k }
@@ -57,11 +58,7 @@ pub fn transform_blocks(x: u64, n: usize) -> u64
     requires width { n ≤ 6 }
     ensures { (k : ℕ) → k < 64 → bit_of result k ≡ block_bit n (bit_of x) k }
 {
-    let mut word = x;
-    for s in 0..n {
-        word = stage(word, s);
-    }
-    word
+    (0..n).fold(x, stage)
 }
 
 // 2^n ones from offset on.

@@ -1,10 +1,21 @@
-// The transform of the bits of a slice of 2^t words. Assumes nothing.
-ghost use Rattle.std.specs.Prelude.{◌≡◌, ℕ, suc, ◌+◌, ◌%◌, ◌^◌, ◌<◌, ◌≤◌, length, slice_index};
+// Bits of slices of words: where two agree, and the transform of 2^t words. Assumes nothing.
+ghost use Rattle.std.specs.Prelude.{◌≡◌, ℕ, suc, ◌+◌, ◌*◌, ◌%◌, ◌^◌, ◌<◌, ◌≤◌, length, slice_index};
 ghost use Rattle.base.specs.Bits.{bit_of};
 ghost use Rattle.base.specs.Transform.{code_bit};
 ghost use Rattle.bits.specs.Blocks.{added_word, block_bit, words_bit};
+ghost use Rattle.bits.specs.Row.{same_bits};
 
 use crate::word;
+
+// Whether the first n bits of both are the same.
+pub fn agree(a: &[u64], b: &[u64], n: usize) -> bool
+    requires long { length a.now ≡ length b.now }
+    requires room { n ≤ 64 * length a.now }
+    ensures { result ≡ same_bits (words_bit a.now) (words_bit b.now) n }
+{
+    let whole = n / 64;
+    a[..whole] == b[..whole] && (whole == a.len() || word::same_low(a[whole], b[whole], n % 64))
+}
 
 // Transforms each word by itself.
 fn transform_each(words: &mut [u64])
@@ -34,6 +45,7 @@ fn stage(words: &mut [u64], s: usize)
     requires pairs { length words.old % 2 ^ suc s ≡ 0 }
     ensures { (i : ℕ) → i < length words.old → slice_index words.new i ≡ added_word s words.old i }
 {
+    // By index: of words written through chunks_exact_mut and zip a proof knows only how many there are.
     for i in 0..words.len() {
         words[i] = added(words, i, s);
     }

@@ -1,5 +1,5 @@
 -- Scratch on the way down the levels: what each level's filling leaves. Assumes nothing.
-use Rattle.std.proofs.Common.{◌≡◌, ℕ, suc, ◌+◌, ◌-◌, ◌*◌, ◌/◌, ◌%◌, ◌^◌, ◌<◌, ◌≤◌, Bool, true, List, get_or, ℤ, pos, nat_abs, sym, refl, ap, ◌∙◌, subst, ⊎_elim, le_trans, mul_assoc, mul_comm, pow-suc, div-mul-le_self, arith, pow_pos, pow_mono}
+use Rattle.std.proofs.Common.{◌≡◌, ℕ, suc, ◌+◌, ◌-◌, ◌*◌, ◌/◌, ◌%◌, ◌^◌, ◌<◌, ◌≤◌, Bool, true, List, ℤ, nat_abs, sym, refl, ap, ◌∙◌, subst, ⊎_elim, le_trans, mul_assoc, mul_comm, pow-suc, div-mul-le_self, arith, pow_mono}
 use mathlib.Core.Path.{fun_ext}
 use native.Mathlib.Nat.{mul-mod_left}
 use Rattle.std.proofs.lemmas.Bool.{eq-eqb, ne_eqb, cond-true, cond-false, and_from, le-leb, lt-ltb, cases_eq}
@@ -9,8 +9,8 @@ use Rattle.bits.specs.Row.{is_aligned_block}
 use Rattle.cost.specs.Values.{g}
 use Rattle.cost.specs.Path.{cost, from}
 use Rattle.cost.specs.Path as path
-use Rattle.cost.specs.Levels.{start, halved, level, Levels, Filled}
-use Rattle.cost.proofs.Filling.{filled-same}
+use Rattle.cost.specs.Levels.{start, halved, level, Levels, Filled, KeptAround}
+use Rattle.cost.proofs.Filling.{filled-same, kept, kept-on, kept-filled}
 use Rattle.cost.proofs.Levels.{halved-le}
 
 -- the level filled with first-half values, or with second-half values, is the one of position i
@@ -46,8 +46,7 @@ first-half-block m i small inside =
 pub record Descent (n : ℕ) (llr : ℕ → ℤ) (u : ℕ → Bool) (i m : ℕ) (before xs : List ℤ) : Type 0 where
   pub levels : Levels n llr u i m xs
   pub small : (k : ℕ) → k < 2 ^ m → nat_abs (level xs m k) ≤ 2 ^ (20 + (n - m))
-  pub first : get_or xs 0 (pos 0) ≡ get_or before 0 (pos 0)
-  pub rest : (j : ℕ) → 2 * 2 ^ n ≤ j → get_or xs j (pos 0) ≡ get_or before j (pos 0)
+  pub around : KeptAround n before xs
 
 pub descent-step : (n : ℕ) (llr : ℕ → ℤ) (u : ℕ → Bool) (i m : ℕ) (before xs ys : List ℤ) → m < n →
     Filled (2 ^ m) (2 ^ m) (halved m (level xs (suc m)) u i) xs ys → Descent n llr u i (suc m) before xs → Descent n llr u i m before ys
@@ -62,10 +61,7 @@ descent-step n llr u i m before xs ys lt made down =
           subst (λ p. nat_abs (level ys m k) ≤ 2 ^ p) (sym e)
           (subst (λ v. nat_abs v ≤ 2 ^ suc (20 + (n - suc m))) (sym (made.filled k inside))
           (omega (arith, halved-le m (level xs (suc m)) u i k (2 ^ (20 + (n - suc m))) inside down.small)));
-      first = made.below 0 (pow_pos m) ∙ down.first;
-      rest = λ j le.
-          let wide : 2 ^ m ≤ 2 ^ n = pow_mono (omega arith) in
-          made.above j (omega arith) ∙ down.rest j le;
+      around = kept-on down.around (kept-filled m n _ xs ys (omega arith) made);
     }
   where
     stays : (j k : ℕ) → m < j → level ys j k ≡ level xs j k
@@ -109,23 +105,20 @@ pub record Walked (n : ℕ) (llr : ℕ → ℤ) (u : ℕ → Bool) (i total : �
   pub sum : total ≡ cost n llr u i
   pub levels : 0 < i → Levels n llr u (i - 1) 0 xs
   pub untouched : i ≡ 0 → xs ≡ before
-  pub first : get_or xs 0 (pos 0) ≡ get_or before 0 (pos 0)
-  pub rest : (j : ℕ) → 2 * 2 ^ n ≤ j → get_or xs j (pos 0) ≡ get_or before j (pos 0)
+  pub around : KeptAround n before xs
 
 pub walked_none : (n : ℕ) (llr : ℕ → ℤ) (u : ℕ → Bool) (xs : List ℤ) → Walked n llr u 0 0 xs xs
 unfolding sum_below
 walked_none n llr u xs =
-    record { sum = refl; levels = λ lt. absurd (omega arith); untouched = λ _. refl; first = refl; rest = λ j le. refl }
+    record { sum = refl; levels = λ lt. absurd (omega arith); untouched = λ _. refl; around = kept }
 
 pub walked_more : (n : ℕ) (llr : ℕ → ℤ) (u : ℕ → Bool) (i total more : ℕ) (before xs ys : List ℤ) → more ≡ cost n llr u (i + 1) →
-    Levels n llr u i 0 ys → get_or ys 0 (pos 0) ≡ get_or xs 0 (pos 0) → ((j : ℕ) → 2 * 2 ^ n ≤ j → get_or ys j (pos 0) ≡ get_or xs j (pos 0)) →
-    Walked n llr u i total before xs → Walked n llr u (i + 1) more before ys
-walked_more n llr u i total more before xs ys sum levels first rest walked =
+    Levels n llr u i 0 ys → KeptAround n xs ys → Walked n llr u i total before xs → Walked n llr u (i + 1) more before ys
+walked_more n llr u i total more before xs ys sum levels around walked =
     let e : i ≡ i + 1 - 1 = omega arith in
     record {
       sum = sum;
       levels = λ _. subst (λ p. Levels n llr u p 0 ys) e levels;
       untouched = λ none. absurd (omega arith);
-      first = first ∙ walked.first;
-      rest = λ j le. rest j le ∙ walked.rest j le;
+      around = kept-on walked.around around;
     }

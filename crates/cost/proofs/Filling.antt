@@ -1,9 +1,9 @@
 -- A loop that writes a block into a list, one value a turn. Assumes nothing.
-use Rattle.std.proofs.Common.{◌≡◌, ℕ, suc, ◌+◌, ◌^◌, ◌<◌, ◌≤◌, ◌≢◌, ◌-◌, List, ◌++◌, length, get_or, drop, set, replicate, ℤ, pos, nat_abs, sym, refl, ap, ◌∙◌, subst, ap₂, ⊎_elim, arith, get_or-set_other, get_or-set_same}
+use Rattle.std.proofs.Common.{◌≡◌, ℕ, suc, ◌+◌, ◌^◌, ◌<◌, ◌≤◌, ◌≢◌, ◌-◌, List, ◌++◌, length, get_or, drop, set, replicate, ℤ, pos, nat_abs, sym, refl, ap, ◌∙◌, subst, ap₂, ⊎_elim, arith, pow_mono, pow_pos, get_or-set_other, get_or-set_same}
 use Rattle.std.proofs.lemmas.Bool.{cases_eq, cases_lt}
 use Rattle.std.proofs.lemmas.List.{get_or_past, get_or_append_left, get_or-append_right, get_or-drop}
 use Rattle.cost.proofs.Silent.{zeros}
-use Rattle.cost.specs.Levels.{Filled, level, paired}
+use Rattle.cost.specs.Levels.{Filled, KeptAround, level, paired}
 
 pub filled_none : (m : ℕ) (block : ℕ → ℤ) (xs : List ℤ) → Filled m 0 block xs xs
 filled_none m block xs = record { filled = λ k lt. absurd (omega arith); below = λ j lt. refl; above = λ j le. refl }
@@ -69,3 +69,15 @@ filled-turn m k p rule before after a b v le place lt low high e part =
     let stays = above-stays m k (paired m rule before) before after le part in
     filled_more (2 ^ m) k p (paired m rule before) before after v place lt
     (e ∙ ap₂ (rule k) (low ∙ stays k) (high ∙ stays (2 ^ m + k))) part
+
+-- around the levels nothing changes: by nothing, by two changes, and by filling a level
+pub kept : {n : ℕ} {xs : List ℤ} → KeptAround n xs xs
+kept = record { first = refl; rest = λ j le. refl }
+
+pub kept-on : {n : ℕ} {xs ys zs : List ℤ} → KeptAround n xs ys → KeptAround n ys zs → KeptAround n xs zs
+kept-on one two = record { first = two.first ∙ one.first; rest = λ j le. two.rest j le ∙ one.rest j le }
+
+pub kept-filled : (m n : ℕ) (block : ℕ → ℤ) (xs ys : List ℤ) → m ≤ n → Filled (2 ^ m) (2 ^ m) block xs ys → KeptAround n xs ys
+kept-filled m n block xs ys le made =
+    let wide : 2 ^ m ≤ 2 ^ n = pow_mono le in
+    record { first = made.below 0 (pow_pos m); rest = λ j far. made.above j (omega arith) }

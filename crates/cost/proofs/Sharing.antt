@@ -1,6 +1,6 @@
 -- Two positions of two paths have their levels in common from the block on in which both stand, if the paths agree before
 -- it; and levels that are in place are small. Assumes nothing.
-use Rattle.std.proofs.Common.{◌≡◌, ℕ, zero, suc, ◌+◌, ◌-◌, ◌*◌, ◌/◌, ◌%◌, ◌^◌, ◌<◌, ◌≤◌, Bool, true, false, eqb, List, ℤ, nat_abs, sym, refl, ap, ◌∙◌, subst, ap₂, ⊎_elim, mul-le-mul_right, mul_assoc, mul_comm, div-mul-le_self, arith}
+use Rattle.std.proofs.Common.{◌≡◌, ℕ, zero, suc, ◌+◌, ◌-◌, ◌*◌, ◌/◌, ◌%◌, ◌^◌, ◌<◌, ◌≤◌, Bool, true, false, eqb, List, ℤ, nat_abs, sym, ap, ◌∙◌, subst, ap₂, ⊎_elim, mul-le-mul_right, mul_assoc, mul_comm, div-mul-le_self, arith}
 use Rattle.std.proofs.lemmas.Nat.{pow-add, shr-shr}
 use Rattle.std.proofs.lemmas.Bool.{cases_Bool, cond-true, cond-false, eqb-false}
 use Rattle.base.specs.Transform.{code_bit}
@@ -8,6 +8,7 @@ use Rattle.base.proofs.Transform.{code-bit-same}
 use Rattle.cost.specs.Values.{g}
 use Rattle.cost.specs.Path.{from}
 use Rattle.cost.specs.Levels.{start, halved, level, Levels, Filled, Shared}
+use Rattle.cost.proofs.Filling.{kept}
 use Rattle.cost.proofs.Levels.{halved-le, start-halves}
 use Rattle.cost.proofs.Descent.{Descent}
 
@@ -97,6 +98,5 @@ descent-from n llr u i low xs le most made =
     record {
       levels = made;
       small = levels-small n (n - low) low llr u i low xs (omega arith) (omega arith) most made;
-      first = refl;
-      rest = λ j above. refl;
+      around = kept;
     }

@@ -35,3 +35,8 @@ pub record Filled (m n : ℕ) (block : ℕ → ℤ) (before after : List ℤ) : 
   pub filled : (k : ℕ) → k < n → slice_index_or after (m + k) (pos 0) ≡ block k
   pub below : (j : ℕ) → j < m → slice_index_or after j (pos 0) ≡ slice_index_or before j (pos 0)
   pub above : (j : ℕ) → m + n ≤ j → slice_index_or after j (pos 0) ≡ slice_index_or before j (pos 0)
+
+-- a list that is kept around levels 0 to n: before place 1, and from place 2 * 2 ^ n on
+pub record KeptAround (n : ℕ) (before after : List ℤ) : Type 0 where
+  pub first : slice_index_or after 0 (pos 0) ≡ slice_index_or before 0 (pos 0)
+  pub rest : (j : ℕ) → 2 * 2 ^ n ≤ j → slice_index_or after j (pos 0) ≡ slice_index_or before j (pos 0)

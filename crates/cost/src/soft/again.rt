@@ -3,7 +3,7 @@
 ghost use Rattle.std.specs.Prelude.{◌≡◌, IsTrue, ℕ, ◌*◌, ◌^◌, ◌<◌, ◌≤◌, length, pos, slice_index_or};
 ghost use Rattle.bits.specs.Row.{row_bit};
 ghost use Rattle.cost.specs.Block.{llr_of, size_of};
-ghost use Rattle.cost.specs.Levels.{Levels, Shared};
+ghost use Rattle.cost.specs.Levels.{KeptAround, Levels, Shared};
 ghost use Rattle.cost.specs.Memo.{Held};
 ghost use Rattle.cost.specs.Path.{decision};
 
@@ -36,8 +36,7 @@ impl Soft {
         requires held { Held (size_of self.now) (llr_of self.now) memo scratch.old }
         ensures inside { result ≤ size_of self.now }
         ensures levels { Levels (size_of self.now) (llr_of self.now) (row_bit row.now) i result scratch.new }
-        ensures before { slice_index_or scratch.new 0 (pos 0) ≡ slice_index_or scratch.old 0 (pos 0) }
-        ensures rest { (j : ℕ) → 2 * 2 ^ size_of self.now ≤ j → slice_index_or scratch.new j (pos 0) ≡ slice_index_or scratch.old j (pos 0) }
+        ensures around { KeptAround (size_of self.now) scratch.old scratch.new }
     {
         match memo {
             Some(last) => shared_level(self.n, &last, row, i),
@@ -62,8 +61,7 @@ impl Soft {
         ensures value { result ≡ decision (size_of self.now) (llr_of self.now) (row_bit row.now) i }
         ensures memo { memo.new ≡ Some (record { path = row.now; at = i }) }
         ensures held { Held (size_of self.now) (llr_of self.now) memo.new scratch.new }
-        ensures before { slice_index_or scratch.new 0 (pos 0) ≡ slice_index_or scratch.old 0 (pos 0) }
-        ensures rest { (j : ℕ) → 2 * 2 ^ size_of self.now ≤ j → slice_index_or scratch.new j (pos 0) ≡ slice_index_or scratch.old j (pos 0) }
+        ensures around { KeptAround (size_of self.now) scratch.old scratch.new }
     {
         let low = self.ready_level(*memo, row, i, scratch);
         self.descend(row, i, low, scratch);

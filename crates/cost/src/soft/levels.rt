@@ -3,7 +3,7 @@
 ghost use Rattle.std.specs.Prelude.{◌≡◌, ℕ, suc, ◌+◌, ◌*◌, ◌^◌, ◌<◌, ◌≤◌, ℤ, length, pos, slice_index_or, unsigned_abs};
 ghost use Rattle.bits.specs.Row.{row_bit};
 ghost use Rattle.cost.specs.Block.{llr_of, size_of};
-ghost use Rattle.cost.specs.Levels.{Filled, Levels, halved, level, paired};
+ghost use Rattle.cost.specs.Levels.{Filled, KeptAround, Levels, halved, level, paired};
 ghost use Rattle.cost.specs.Path.{decision};
 
 use super::Soft;
@@ -72,8 +72,7 @@ impl Soft {
         requires room { 2 * 2 ^ size_of self.now ≤ length scratch.old }
         requires levels { Levels (size_of self.now) (llr_of self.now) (row_bit row.now) i low scratch.old }
         ensures levels { Levels (size_of self.now) (llr_of self.now) (row_bit row.now) i 0 scratch.new }
-        ensures before { slice_index_or scratch.new 0 (pos 0) ≡ slice_index_or scratch.old 0 (pos 0) }
-        ensures rest { (j : ℕ) → 2 * 2 ^ size_of self.now ≤ j → slice_index_or scratch.new j (pos 0) ≡ slice_index_or scratch.old j (pos 0) }
+        ensures around { KeptAround (size_of self.now) scratch.old scratch.new }
     {
         for m in (0..low).rev() {
             fill_level(m, row, i, scratch);
@@ -86,8 +85,7 @@ impl Soft {
         requires room { 2 * 2 ^ size_of self.now ≤ length scratch.old }
         ensures value { result ≡ decision (size_of self.now) (llr_of self.now) (row_bit row.now) i }
         ensures levels { Levels (size_of self.now) (llr_of self.now) (row_bit row.now) i 0 scratch.new }
-        ensures before { slice_index_or scratch.new 0 (pos 0) ≡ slice_index_or scratch.old 0 (pos 0) }
-        ensures rest { (j : ℕ) → 2 * 2 ^ size_of self.now ≤ j → slice_index_or scratch.new j (pos 0) ≡ slice_index_or scratch.old j (pos 0) }
+        ensures around { KeptAround (size_of self.now) scratch.old scratch.new }
     {
         self.fill_top(scratch);
         self.descend(row, i, self.n, scratch);

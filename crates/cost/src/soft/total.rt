@@ -2,7 +2,7 @@
 ghost use Rattle.std.specs.Prelude.{◌≡◌, ℕ, ◌-◌, ◌*◌, ◌^◌, ◌<◌, ◌≤◌, length, pos, slice_index_or};
 ghost use Rattle.bits.specs.Row.{row_bit};
 ghost use Rattle.cost.specs.Block.{llr_of, size_of};
-ghost use Rattle.cost.specs.Levels.{Levels};
+ghost use Rattle.cost.specs.Levels.{KeptAround, Levels};
 ghost use Rattle.cost.specs.Path.{cost};
 
 use super::Soft;
@@ -17,8 +17,7 @@ impl Soft {
         ensures result { result ≡ cost (size_of self.now) (llr_of self.now) (row_bit row.now) len }
         ensures levels { 0 < len → Levels (size_of self.now) (llr_of self.now) (row_bit row.now) (len - 1) 0 scratch.new }
         ensures untouched { len ≡ 0 → scratch.new ≡ scratch.old }
-        ensures before { slice_index_or scratch.new 0 (pos 0) ≡ slice_index_or scratch.old 0 (pos 0) }
-        ensures rest { (j : ℕ) → 2 * 2 ^ size_of self.now ≤ j → slice_index_or scratch.new j (pos 0) ≡ slice_index_or scratch.old j (pos 0) }
+        ensures around { KeptAround (size_of self.now) scratch.old scratch.new }
     {
         // A loop: of a sum over a closure that writes scratch no fact would be known.
         let mut total = 0;

@@ -1,5 +1,6 @@
-use Rattle.std.proofs.Common.{get_or, pos, ◌∙◌, arith, pow_pos, w32, SFits, rules}
+use Rattle.std.proofs.Common.{get_or, pos, ◌∙◌, arith, w32, SFits, rules}
 use Rattle.std.proofs.lemmas.Int.{to_z-of_z}
+use Rattle.cost.proofs.Filling.{kept-on, kept-filled}
 use Rattle.cost.proofs.Levels.{ends-in-decision}
 use Rattle.cost.proofs.Sharing.{levels-top}
 use Rattle.cost.proofs.soft.Soft.decision.Goals as goal
@@ -20,6 +21,5 @@ returns c =
           to_z-of_z w32 _ fits
           ∙ ends-in-decision c.args.self.now.n _ _ c.args.i c.descend.new.scratch c.requires.place c.descend.ensures.levels;
       levels = c.descend.ensures.levels;
-      before = c.descend.ensures.before ∙ c.fill_top.ensures.below 0 (pow_pos c.args.self.now.n);
-      rest = λ j le. c.descend.ensures.rest j le ∙ c.fill_top.ensures.above j (omega arith);
+      around = kept-on (kept-filled c.args.self.now.n c.args.self.now.n _ _ _ (omega arith) c.fill_top.ensures) c.descend.ensures.around;
     }

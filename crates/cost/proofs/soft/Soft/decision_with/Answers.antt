@@ -1,5 +1,6 @@
 use Rattle.std.proofs.Common.{get_or, pos, refl, ◌∙◌, w32, SFits, rules}
 use Rattle.std.proofs.lemmas.Int.{to_z-of_z}
+use Rattle.cost.proofs.Filling.{kept-on}
 use Rattle.cost.proofs.Levels.{ends-in-decision}
 use Rattle.cost.proofs.soft.Soft.decision_with.Goals as goal
 
@@ -13,6 +14,5 @@ returns c =
       value = to_z-of_z w32 _ fits ∙ ends-in-decision c.args.self.now.n _ _ c.args.i ys c.requires.place made.levels;
       memo = refl;
       held = made.levels;
-      before = made.before ∙ ready.before;
-      rest = λ j le. made.rest j le ∙ ready.rest j le;
+      around = kept-on ready.around made.around;
     }

@@ -34,6 +34,5 @@ returns c =
       levels =
           subst (λ m. Levels c.args.self.now.n (llr_of c.args.self.now) (row_bit c.args.row.now) c.args.i m c.loop-m.scratch)
           done c.loop-m.invariant.levels;
-      before = c.loop-m.invariant.first;
-      rest = c.loop-m.invariant.rest;
+      around = c.loop-m.invariant.around;
     }

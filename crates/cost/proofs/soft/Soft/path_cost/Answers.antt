@@ -30,7 +30,7 @@ overflow_add-total c =
 pub loop-i-preserved : goal.loop-i-preserved
 loop-i-preserved c =
     walked_more c.args.self.now.n _ _ c.loop-i.i c.loop-i.total _ _ c.loop-i.scratch _ (more c) c.decision.ensures.levels
-    c.decision.ensures.before c.decision.ensures.rest c.loop-i.invariant
+    c.decision.ensures.around c.loop-i.invariant
 
 pub returns : goal.returns
 returns c =
@@ -39,4 +39,4 @@ returns c =
     subst
     (λ i. Walked c.args.self.now.n (llr_of c.args.self.now) (row_bit c.args.row.now) i c.loop-i.total c.args.scratch.now c.loop-i.scratch)
     all c.loop-i.invariant in
-    record { result = walked.sum; levels = walked.levels; untouched = walked.untouched; before = walked.first; rest = walked.rest }
+    record { result = walked.sum; levels = walked.levels; untouched = walked.untouched; around = walked.around }

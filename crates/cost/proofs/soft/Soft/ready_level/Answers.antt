@@ -1,7 +1,8 @@
-use Rattle.std.proofs.Common.{◌^◌, ◌≤◌, refl, subst, arith, pow_mono}
+use Rattle.std.proofs.Common.{◌^◌, ◌≤◌, subst, arith, pow_mono}
 use Rattle.bits.specs.Row.{row_bit}
 use Rattle.cost.specs.Block.{llr_of}
 use Rattle.cost.specs.Memo.{Held}
+use Rattle.cost.proofs.Filling.{kept}
 use Rattle.cost.proofs.Sharing.{levels-shared}
 use Rattle.cost.proofs.soft.Soft.ready_level.Goals as goal
 
@@ -18,6 +19,5 @@ returns-in-Some c =
     record {
       inside = c.shared_level.ensures.inside;
       levels = levels-shared d.n c.shared_level.result (llr_of d) (row_bit c.args.row.now) c.args.i (row_bit c.in-Some.last.path) c.in-Some.last.at xs c.shared_level.ensures.shared last;
-      before = refl;
-      rest = λ j le. refl;
+      around = kept;
     }
