@@ -2,6 +2,3 @@ pub mod Heaps
 pub mod Shape
 pub mod Sorting
 pub mod Sorts
-pub mod Kept
-pub mod Fronts
-pub mod Sifts

@@ -1,20 +1,14 @@
-// A store as a binary heap at the front of an array. Assumes nothing.
+// A store as a binary heap. Assumes nothing.
 mod calls;
 
-ghost use Rattle.std.specs.Prelude.{◌≡◌, ◌≤◌, length};
+ghost use Rattle.std.specs.Prelude.{length};
 ghost use Rattle.heap.specs.Shape.{Heaped};
+ghost use Rattle.store.specs.Slots.{used};
 
-use store::{Candidate, MOST};
+use store::slots::Slots;
 
 #[derive(Clone, Copy, Drop)]
 pub struct Heap {
-    slots: [Candidate; MOST],
-    len: usize,
-    capacity: usize,
-    floor: Option<u32>,
-    ghost whole: { length slots ≡ 128 },
-    ghost within: { len ≤ capacity },
-    ghost least: { 2 ≤ capacity },
-    ghost most: { capacity ≤ 128 },
-    ghost heaped: { Heaped slots len },
+    slots: Slots,
+    ghost heaped: { Heaped (used slots) (length (used slots)) },
 }

@@ -1,6 +1,6 @@
 // Candidates that move in a heap until it is one again. Assumes nothing.
-ghost use Rattle.std.specs.Prelude.{◌≡◌, ◌+◌, ◌*◌, ◌<◌, length};
-ghost use Rattle.heap.specs.Shape.{Child, Heaped, Last, Rising, Sinking};
+ghost use Rattle.std.specs.Prelude.{◌≡◌, ◌+◌, ◌*◌, ◌<◌, true, length, slice_set};
+ghost use Rattle.heap.specs.Shape.{at, Child, Heaped, Last, Rising, Sinking};
 ghost use Rattle.heap.specs.Sorting.{sorted};
 ghost use Rattle.store.specs.Order.{before};
 
@@ -13,6 +13,7 @@ pub(crate) fn rise(slots: &mut [Candidate], place: usize)
     ensures same { sorted before slots.new ≡ sorted before slots.old }
     ensures heaped { Heaped slots.new (length slots.old) }
 {
+    // A loop, since the next place to look at depends on what the last turn swapped.
     let mut at = place;
     while at > 0 {
         let up = (at - 1) / 2;
@@ -22,6 +23,18 @@ pub(crate) fn rise(slots: &mut [Candidate], place: usize)
         slots.swap(at, up);
         at = up;
     }
+}
+
+// Puts c into the place of a candidate that it comes before, and lets it rise.
+pub(crate) fn replace(slots: &mut [Candidate], place: usize, c: Candidate)
+    requires within { place < length slots.old }
+    requires earlier { before c (at slots.old place) ≡ true }
+    requires heaped { Heaped slots.old (length slots.old) }
+    ensures same { sorted before slots.new ≡ sorted before (slice_set slots.old place c) }
+    ensures heaped { Heaped slots.new (length slots.old) }
+{
+    slots[place] = c;
+    rise(slots, place);
 }
 
 // Which of the children of `place` comes first.
@@ -43,6 +56,7 @@ pub(crate) fn sink(slots: &mut [Candidate])
     ensures same { sorted before slots.new ≡ sorted before slots.old }
     ensures heaped { Heaped slots.new (length slots.old) }
 {
+    // A loop, since the next place to look at depends on what the last turn swapped.
     let mut at = 0;
     while at < slots.len() / 2 {
         let child = first_child(slots, at);
@@ -59,11 +73,7 @@ pub(crate) fn last_from(slots: &[Candidate], start: usize) -> usize
     requires within { start < length slots.now }
     ensures { Last slots.now start result }
 {
-    let mut last = start;
-    for i in start..slots.len() {
-        if slots[last].before(&slots[i]) {
-            last = i;
-        }
-    }
-    last
+    (start..slots.len())
+        .max_by_key(|&i| slots[i])
+        .unwrap_or(start)
 }

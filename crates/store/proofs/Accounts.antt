@@ -92,6 +92,11 @@ module _ {X : Type 0} (before : X → X → Bool) (metric : X → ℕ) (by-metri
 pub take-is-least-and-accounted : TakeIsLeastAndAccounted
 take-is-least-and-accounted = take-accounted before metric_of earlier-costs-no-more
 
+pub take-sheds-nothing : {X : Type 0} (metric : X → ℕ) (floor : Option ℕ) (xs : List X) → floor ≡ lowered metric floor (takes xs).shed
+unfolding lowered
+take-sheds-nothing metric floor [] = refl
+take-sheds-nothing metric floor (x ∷ xs) = refl
+
 -- the floor is lowered alike by elements and by what they are read as
 pub lowered-map :
     {X Y : Type 0} (f : X → Y) (metric : X → ℕ) (metric' : Y → ℕ) → ((x : X) → metric' (f x) ≡ metric x) → (floor : Option ℕ) (xs : List X)

@@ -3,22 +3,34 @@ use Rattle.std.proofs.Common.{◌≡◌, ℕ, Bool, true, ltb, nat_lt, ap, ◌�
 use Rattle.std.proofs.lemmas.Bool.Decides.{nat_tests}
 use Rattle.store.specs.declared.candidate.Candidate.{Candidate}
 use Rattle.store.proofs.Inserts.{Strict}
-use Rattle.std.specs.Ordering.{is_lt, nat_cmp, ordering_then}
+use Rattle.std.specs.Ordering.{is_gt, is_lt, nat_cmp, ordering_then}
 use Rattle.std.specs.declared.cmp.Ordering.{Ordering}
 use Rattle.store.specs.Order.{lex, before, compared, NoneBeforeItself, OrderCarriesOver, UnorderedAreEqual, EarlierCostsNoMore}
 
 -- the lesser comes first
-then_lex : (x y : ℕ) (o : Ordering) → is_lt (ordering_then (nat_cmp x y) o) ≡ lex x y (is_lt o)
-then_lex x y o = grind (arith, nat_tests)
+lt-then : (x y : ℕ) (o : Ordering) → is_lt (ordering_then (nat_cmp x y) o) ≡ lex x y (is_lt o)
+lt-then x y o = grind (arith, nat_tests)
 
-below : (x y : ℕ) → is_lt (nat_cmp x y) ≡ nat_lt x y
-below x y = grind (arith, nat_tests)
+lt-nat : (x y : ℕ) → is_lt (nat_cmp x y) ≡ nat_lt x y
+lt-nat x y = grind (arith, nat_tests)
 
 pub lesser-before : (a b : Candidate) → is_lt (compared a b) ≡ before a b
 unfolding before
 lesser-before a b =
-    then_lex a.metric b.metric _
-    ∙ ap (lex a.metric b.metric) (then_lex b.length a.length _ ∙ ap (lex b.length a.length) (then_lex a.serial b.serial _ ∙ ap (lex a.serial b.serial) (below a.row b.row)))
+    lt-then a.metric b.metric _
+    ∙ ap (lex a.metric b.metric) (lt-then b.length a.length _ ∙ ap (lex b.length a.length) (lt-then a.serial b.serial _ ∙ ap (lex a.serial b.serial) (lt-nat a.row b.row)))
+
+gt-then : (x y : ℕ) (o : Ordering) → is_gt (ordering_then (nat_cmp x y) o) ≡ lex y x (is_gt o)
+gt-then x y o = grind (arith, nat_tests)
+
+gt-nat : (x y : ℕ) → is_gt (nat_cmp x y) ≡ nat_lt y x
+gt-nat x y = grind (arith, nat_tests)
+
+pub greater-before : (a b : Candidate) → is_gt (compared a b) ≡ before b a
+unfolding before
+greater-before a b =
+    gt-then a.metric b.metric _
+    ∙ ap (lex b.metric a.metric) (gt-then b.length a.length _ ∙ ap (lex a.length b.length) (gt-then a.serial b.serial _ ∙ ap (lex b.serial a.serial) (gt-nat a.row b.row)))
 
 pub none-before-itself : NoneBeforeItself
 unfolding before

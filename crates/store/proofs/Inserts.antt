@@ -1,5 +1,5 @@
 -- Insertion by a test, and what it keeps. Assumes of the test what each section names.
-use Rattle.std.proofs.Common.{◌≡◌, ℕ, zero, suc, ◌<◌, Bool, true, false, cond, not, List, [], ◌∷◌, ◌++◌, map, length, take, drop, refl, ap, ◌∙◌, arith}
+use Rattle.std.proofs.Common.{◌≡◌, ℕ, zero, suc, ◌<◌, Bool, true, false, cond, not, List, [], ◌∷◌, ◌++◌, map, length, take, drop, refl, sym, ap, ◌∙◌, arith}
 use Rattle.std.specs.List.{AllByRecursion}
 use Rattle.std.proofs.lemmas.List.{drop_all, drop_at, take_all, take_at}
 use Rattle.std.proofs.lemmas.Bool.{and_parts, and_from, both_ways, not-true, not_from_false}
@@ -56,6 +56,9 @@ module _ {X : Type 0} (before : X → X → Bool) where
   in-order-take (suc n) (x ∷ xs) h =
       let p = and_parts (none_before before x xs) (in_order before xs) h in
       and_from _ _ (none-before-take n x xs p.0) (in-order-take n xs p.1)
+
+  pub in-order-front : (xs ys : List X) → in_order before (xs ++ ys) ≡ true → in_order before xs ≡ true
+  in-order-front xs ys h = ap (in_order before) (sym (take_at xs ys (length xs) refl)) ∙ in-order-take (length xs) (xs ++ ys) h
 
   pub all_inserted : (P : X → Type 0) (xs : List X) (c : X) → AllByRecursion P xs → P c → AllByRecursion P (inserted before xs c)
   unfolding inserted

@@ -1,10 +1,8 @@
 -- The table's put and take as steps on the list of its slots. Assumes what each section names.
-use Rattle.std.proofs.Common.{◌≡◌, ℕ, zero, suc, ◌+◌, ◌-◌, ◌<◌, ◌≤◌, Bool, true, false, cond, List, [], ◌∷◌, ◌++◌, length, get_or, take, drop, set, sym, refl, ap, ◌∙◌, arith}
-use borrow.Rule.Slice.PartMut.{mid_of, post_of}
-use lib.Seq.{paste}
-use Rattle.std.proofs.lemmas.List.{append_assoc, drop_more, drop-set-lt, length-append, length-drop, length_push, length-take-le, take_at, take_more_set}
+use Rattle.std.proofs.Common.{◌≡◌, ℕ, ◌+◌, ◌<◌, Bool, true, false, cond, List, [], ◌∷◌, ◌++◌, length, get_or, take, drop, set, Some, None, Option, MatchOption, sym, refl, ap, ◌∙◌, arith}
+use Rattle.std.proofs.lemmas.List.{append_assoc, drop_more, drop-set-lt, length_push, same_from_push, take_more_set}
 use Rattle.store.specs.Ordered.{inserted, in_order}
-use Rattle.store.proofs.Inserts.{insert-after, insert-here, insert-first, none-before-head, length_inserted}
+use Rattle.store.proofs.Inserts.{insert-after, insert-here, insert-first, none-before-head}
 
 module _ {X : Type 0} (before : X → X → Bool) where
   -- of the element met and the one carried, the first stays and the other goes on
@@ -31,40 +29,11 @@ module _ {X : Type 0} (before : X → X → Bool) where
       rw (first, second, take_more_set, drop-set-lt (i + 1), append_assoc)
       (e ∙ ap (λ ys. take i xs ++ inserted before ys c) split ∙ ap (λ ys. take i xs ++ ys) turn)
 
--- a part from the start, as the checker writes it
-pub part-is-front : {X : Type 0} (n : ℕ) (xs : List X) → mid_of 0 (n - 0) xs ≡ take n xs
-part-is-front n xs = let e : n - 0 ≡ n = omega arith in ap (λ k. take k xs) e
-
--- a put: ys is the front after the squeeze, and last what was squeezed out of it
-module _
-    {X : Type 0} (before : X → X → Bool) (slots : List X) (n : ℕ) (c : X) (ys : List X) (last : X) (size : n ≤ length slots)
-    (squeezed : ys ++ last ∷ [] ≡ inserted before (take n slots) c)
-  where
-    pub front_length : length ys ≡ n
-    front_length =
-        let long : length ys + 1 ≡ suc n =
-        sym (length_push ys last) ∙ ap length squeezed ∙ length_inserted before (take n slots) c ∙ ap suc (length-take-le n slots size) in
-        omega arith
-
-    pub whole_length : length (ys ++ post_of 0 (n - 0) slots) ≡ length slots
-    whole_length =
-        let e : n - 0 ≡ n = omega arith in
-        length-append ys (post_of 0 (n - 0) slots) ∙ ap (λ k. length ys + length (drop k slots)) e ∙ simp length-drop (omega (arith, front_length))
-
-    pub room-front : n < length slots → take (n + 1) (set (ys ++ post_of 0 (n - 0) slots) n last) ≡ inserted before (take n slots) c
-    room-front h =
-        let rest = post_of 0 (n - 0) slots in
-        let lt : n < length (ys ++ rest) = omega (arith, whole_length) in
-        take_more_set (ys ++ rest) n last lt ∙ ap (λ zs. zs ++ last ∷ []) (take_at ys rest n front_length) ∙ squeezed
-
--- the first of a front, and the others
-pub front-split : {X : Type 0} (n : ℕ) (xs : List X) (d : X) → 0 < n → n ≤ length xs → take n xs ≡ get_or xs 0 d ∷ take (n - 1) (drop 1 xs)
-front-split zero xs d h k = absurd (let b : ⊥ = omega arith in b)
-front-split (suc n) [] d h k = absurd (let b : ⊥ = omega arith in b)
-front-split (suc n) (x ∷ xs) d h k = let e : n ≡ suc n - 1 = omega arith in ap (λ m. x ∷ take m xs) e
-
--- a take moves the others one place to the front
-pub closed-up : {X : Type 0} (n : ℕ) (xs : List X) → 0 < n → n ≤ length xs → take (n - 1) (paste xs 0 (drop 1 xs) (n - 1)) ≡ take (n - 1) (drop 1 xs)
-closed-up n xs h k =
-    let fits : n - 1 ≤ length (drop 1 xs) = simp length-drop (omega arith) in
-    take_at (take (n - 1) (drop 1 xs)) (drop (0 + (n - 1)) xs) (n - 1) (length-take-le (n - 1) (drop 1 xs) fits)
+-- the first goes to the end, and then the last out of use
+pub rotated-popped :
+    {X : Type 0} (xs ys : List X) {zs : List X} (r : Option X) → (xs ≡ [] → ⊥) → zs ≡ drop 1 xs ++ take 1 xs
+    → MatchOption r (zs ≡ []) (λ c. zs ≡ ys ++ c ∷ []) → ys ≡ drop 1 xs
+rotated-popped [] ys r some e h = absurd (some refl)
+rotated-popped (x ∷ xs) ys None some e h =
+    let long : length (xs ++ x ∷ []) ≡ 0 = ap length (sym e ∙ h) in absurd (let b : ⊥ = omega (arith, long, length_push xs x) in b)
+rotated-popped (x ∷ xs) ys (Some c) some e h = (same_from_push ys xs c x (sym h ∙ e)).0

@@ -3,4 +3,5 @@ pub mod Meaning
 pub mod Order
 pub mod Ordered
 pub mod Promises
+pub mod Slots
 pub mod Tables

@@ -7,6 +7,7 @@ ghost use Rattle.std.proofs.Common.{rules};
 ghost use Rattle.store.specs.Order.{before, compared};
 
 use std::cmp::Ordering;
+use std::fmt;
 
 // A path that waits to be taken.
 #[derive(Clone, Copy, PartialEq, Eq, Debug)]
@@ -54,5 +55,15 @@ impl PartialOrd for Candidate {
 
     fn partial_cmp(&self, other: &Candidate) -> Option<Ordering> {
         Some(self.cmp(other))
+    }
+}
+
+impl fmt::Display for Candidate {
+    fn fmt<W: fmt::Write>(&self, f: &mut fmt::Formatter<W>) -> fmt::Result {
+        write!(
+            f,
+            "{}:{}:{}:{}",
+            self.metric, self.length, self.serial, self.row
+        )
     }
 }

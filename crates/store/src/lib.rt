@@ -4,12 +4,11 @@
 mod candidate;
 pub mod laws;
 mod minimum;
-mod slots;
+pub mod slots;
 mod store;
 mod table;
 
 pub use candidate::Candidate;
 pub use minimum::lesser;
-pub use slots::row_among;
 pub use store::{BLANK, MOST, Store, held_capacity};
 pub use table::Table;

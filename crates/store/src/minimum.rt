@@ -6,9 +6,5 @@ ghost use Rattle.store.specs.Lesser.{lesser_of};
 pub fn lesser(a: Option<u32>, b: Option<u32>) -> Option<u32>
     ensures result { result ≡ lesser_of a b }
 {
-    match (a, b) {
-        (None, _) => b,
-        (Some(_), None) => a,
-        (Some(x), Some(y)) => Some(x.min(y)),
-    }
+    a.into_iter().chain(b).min()
 }

@@ -1,4 +1,5 @@
 // A call of a store, and what it answers. Assumes nothing.
+use std::fmt;
 use store::Candidate;
 
 #[derive(Clone, Copy, PartialEq, Eq, Debug)]
@@ -25,4 +26,19 @@ pub enum Answer {
     Metric(Option<u32>),
     // of the question for a row
     Held(bool),
+}
+
+impl fmt::Display for Answer {
+    fn fmt<W: fmt::Write>(&self, f: &mut fmt::Formatter<W>) -> fmt::Result {
+        match self {
+            Answer::Done => f.write_str("done"),
+            Answer::Taken(None) => f.write_str("empty"),
+            Answer::Taken(Some(c)) => write!(f, "{c}"),
+            Answer::Number(n) => write!(f, "{n}"),
+            Answer::Metric(None) => f.write_str("-"),
+            Answer::Metric(Some(m)) => write!(f, "{m}"),
+            Answer::Held(true) => f.write_str("yes"),
+            Answer::Held(false) => f.write_str("no"),
+        }
+    }
 }

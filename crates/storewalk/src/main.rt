@@ -34,28 +34,9 @@ fn call_of(words: &[&str]) -> Option<Call> {
     }
 }
 
-fn text_of(heap: Global, answer: Answer) -> Result<String, AllocError> {
-    match answer {
-        Answer::Done => format!(in heap; "done"),
-        Answer::Taken(None) => format!(in heap; "empty"),
-        Answer::Taken(Some(c)) => {
-            let metric = c.metric;
-            let length = c.length;
-            let serial = c.serial;
-            let row = c.row;
-            format!(in heap; "{metric}:{length}:{serial}:{row}")
-        }
-        Answer::Number(n) => format!(in heap; "{n}"),
-        Answer::Metric(None) => format!(in heap; "-"),
-        Answer::Metric(Some(m)) => format!(in heap; "{m}"),
-        Answer::Held(true) => format!(in heap; "yes"),
-        Answer::Held(false) => format!(in heap; "no"),
-    }
-}
-
 // What one store answers, and how many it then keeps.
 fn told<S: Store>(heap: Global, store: &mut S, call: Call) -> Result<String, AllocError> {
-    let answer = text_of(heap, play(store, call))?;
+    let answer = play(store, call);
     let count = store.count();
     format!(in heap; "{answer} {count}")
 }

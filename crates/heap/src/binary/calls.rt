@@ -3,13 +3,14 @@ ghost use Rattle.std.specs.Prelude.{◌≡◌, ◌≤◌, [], length, None};
 ghost use Rattle.heap.specs.Heaps.{heap_kept, heap_capacity, heap_floor};
 ghost use Rattle.store.specs.Order;
 ghost use Rattle.store.proofs.Candidates.{strict};
-ghost use Rattle.heap.specs.Sorts.{in-order-sorted};
-ghost use Rattle.std.proofs.Common.{arith, rules};
-ghost use Rattle.heap.specs.Kept.{kept-length};
+ghost use Rattle.store.specs.Slots.{used, used-within};
+ghost use Rattle.heap.specs.Sorts.{in-order-sorted, length-sorted};
+ghost use Rattle.std.proofs.Common.{arith};
 
 use crate::binary::Heap;
-use crate::sift::{last_from, rise, sink};
-use store::{BLANK, Candidate, MOST, Store, held_capacity, lesser, row_among};
+use crate::sift::{last_from, replace, rise, sink};
+use store::slots::Slots;
+use store::{Candidate, Store};
 
 impl Heap {
     // Keeps nothing, and has room for as many as any store.
@@ -19,10 +20,7 @@ impl Heap {
         ensures floor { heap_floor result ≡ None }
     {
         Heap {
-            slots: [BLANK; MOST],
-            len: 0,
-            capacity: MOST,
-            floor: None,
+            slots: Slots::new(),
         }
     }
 }
@@ -34,69 +32,60 @@ impl Store for Heap {
 
     ghost floor = { heap_floor };
 
-    ghost ordered = { λ s. in-order-sorted Order.before strict _ };
+    ghost ordered = { λ h. in-order-sorted Order.before strict _ };
 
-    ghost within = { λ s. let fits : s.len ≤ length s.slots = omega arith in omega (arith, kept-length s.slots s.len fits) };
+    ghost within = { λ h. omega (arith, length-sorted Order.before (used h.slots), used-within h.slots) };
 
-    ghost sized = { first_of (Prim.search rules, Prim.grind (arith, Self.row.coded.inj)) };
+    ghost sized = { λ h. (h.slots.least, h.slots.most) };
 
     fn empty(&mut self, wanted: usize) {
-        self.len = 0;
-        self.capacity = held_capacity(wanted);
-        self.floor = None;
+        self.slots.empty(wanted);
     }
 
     fn put(&mut self, c: Candidate) {
-        if self.len < self.capacity {
-            self.slots[self.len] = c;
-            rise(&mut self.slots[0..self.len + 1], self.len);
-            self.len += 1;
+        if !self.slots.is_full() {
+            let place = self.slots.len();
+            self.slots.push(c);
+            self.slots.rearrange(|used| rise(used, place));
             return;
         }
         // The last of the kept has no child.
-        let place = last_from(&self.slots[0..self.len], self.len / 2);
-        let last = self.slots[place];
+        let used = self.slots.as_slice();
+        let place = last_from(used, used.len() / 2);
+        let last = used[place];
         if !c.before(&last) {
-            self.floor = lesser(self.floor, Some(c.metric));
+            self.slots.shed(c);
             return;
         }
-        self.slots[place] = c;
-        rise(&mut self.slots[0..self.len], place);
-        self.floor = lesser(self.floor, Some(last.metric));
+        self.slots.rearrange(|used| replace(used, place, c));
+        self.slots.shed(last);
     }
 
     fn take(&mut self) -> Option<Candidate> {
-        if self.len == 0 {
-            return None;
-        }
-        let first = self.slots[0];
-        let rest = self.len - 1;
-        self.slots[0] = self.slots[rest];
-        sink(&mut self.slots[0..rest]);
-        self.len = rest;
-        Some(first)
+        let rest = self.slots.len().checked_sub(1)?;
+        self.slots.rearrange(|used| used.swap(0, rest));
+        let first = self.slots.pop();
+        self.slots.rearrange(sink);
+        first
     }
 
     fn count(&self) -> usize {
-        self.len
+        self.slots.len()
     }
 
     fn capacity(&self) -> usize {
-        self.capacity
+        self.slots.capacity()
     }
 
     fn first_metric(&self) -> Option<u32> {
-        if self.len == 0 {
-            return None;
-        }
-        Some(self.slots[0].metric)
+        self.slots.first_metric()
     }
 
     fn floor(&self) -> Option<u32> {
-        self.floor
+        self.slots.floor()
     }
 
     fn holds_row(&self, row: u8) -> bool {
-        row_among(&self.slots[0..self.len], row)
+        self.slots.holds_row(row)
     }
 }

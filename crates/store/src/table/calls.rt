@@ -1,14 +1,13 @@
 // The calls of a table. Assumes nothing.
-ghost use Rattle.std.specs.Prelude.{◌≡◌, true, [], ◌∷◌, ◌++◌, length, if◌then◌else◌, None};
+ghost use Rattle.std.specs.Prelude.{◌≡◌, true, [], ◌∷◌, ◌++◌, None};
 ghost use Rattle.store.specs.Order.{before};
 ghost use Rattle.store.specs.Ordered.{inserted, in_order};
 ghost use Rattle.store.specs.Tables.{table_kept, table_capacity, table_floor};
-ghost use Rattle.std.proofs.Common.{rules, arith};
+ghost use Rattle.store.specs.Slots.{used-within};
 
 use crate::candidate::Candidate;
-use crate::minimum::lesser;
-use crate::slots::row_among;
-use crate::store::{BLANK, MOST, Store, held_capacity};
+use crate::slots::Slots;
+use crate::store::Store;
 use crate::table::Table;
 
 impl Table {
@@ -19,20 +18,9 @@ impl Table {
         ensures floor { table_floor result ≡ None }
     {
         Table {
-            slots: [BLANK; MOST],
-            len: 0,
-            capacity: MOST,
-            floor: None,
+            slots: Slots::new(),
         }
     }
-}
-
-// The two, the one that comes first before the other.
-fn in_turn(a: Candidate, b: Candidate) -> (Candidate, Candidate)
-    ensures first { result.0 ≡ (if before a b then a else b) }
-    ensures second { result.1 ≡ (if before a b then b else a) }
-{
-    if a.before(&b) { (a, b) } else { (b, a) }
 }
 
 // Puts c into its place among slots that are in order, with each later one a place on, and answers the last of them all.
@@ -42,8 +30,8 @@ fn squeeze_in(slots: &mut [Candidate], c: Candidate) -> Candidate
 {
     let mut last = c;
     for slot in slots.iter_mut() {
-        let (stays, goes) = in_turn(*slot, last);
-        *slot = stays;
+        let goes = last.max(*slot);
+        *slot = last.min(*slot);
         last = goes;
     }
     last
@@ -56,58 +44,50 @@ impl Store for Table {
 
     ghost floor = { table_floor };
 
-    ghost ordered = { first_of (Prim.search rules, Prim.grind (arith, Self.row.coded.inj)) };
+    ghost ordered = { λ t. t.ordered };
 
-    ghost within = { first_of (Prim.search rules, Prim.grind (arith, Self.row.coded.inj)) };
+    ghost within = { λ t. used-within t.slots };
 
-    ghost sized = { first_of (Prim.search rules, Prim.grind (arith, Self.row.coded.inj)) };
+    ghost sized = { λ t. (t.slots.least, t.slots.most) };
 
     fn empty(&mut self, wanted: usize) {
-        self.len = 0;
-        self.capacity = held_capacity(wanted);
-        self.floor = None;
+        self.slots.empty(wanted);
     }
 
     fn put(&mut self, c: Candidate) {
-        let last = squeeze_in(&mut self.slots[0..self.len], c);
-        if self.len < self.capacity {
-            self.slots[self.len] = last;
-            self.len += 1;
-            return;
+        let last = self.slots.rearrange(|used| squeeze_in(used, c));
+        if self.slots.is_full() {
+            self.slots.shed(last);
+        } else {
+            self.slots.push(last);
         }
-        self.floor = lesser(self.floor, Some(last.metric));
     }
 
     fn take(&mut self) -> Option<Candidate> {
-        if self.len == 0 {
+        if self.slots.is_empty() {
             return None;
         }
-        let first = self.slots[0];
-        self.slots.copy_within(1..self.len, 0);
-        self.len -= 1;
-        Some(first)
+        self.slots.rearrange(|used| used.rotate_left(1));
+        self.slots.pop()
     }
 
     fn count(&self) -> usize {
-        self.len
+        self.slots.len()
     }
 
     fn capacity(&self) -> usize {
-        self.capacity
+        self.slots.capacity()
     }
 
     fn first_metric(&self) -> Option<u32> {
-        if self.len == 0 {
-            return None;
-        }
-        Some(self.slots[0].metric)
+        self.slots.first_metric()
     }
 
     fn floor(&self) -> Option<u32> {
-        self.floor
+        self.slots.floor()
     }
 
     fn holds_row(&self, row: u8) -> bool {
-        row_among(&self.slots[0..self.len], row)
+        self.slots.holds_row(row)
     }
 }

@@ -1,5 +1,5 @@
 use Rattle.std.proofs.Common.{sym, ◌∙◌, arith}
-use Rattle.heap.specs.Sifts.{right-first, left-first}
+use Rattle.heap.proofs.Sifts.{right-first, left-first}
 use Rattle.heap.proofs.sift.first_child.Goals as goal
 use Rattle.heap.proofs.sift.first_child.Goals.{else-left-slots-via-then-left-slots+else-before, else-left-slots-via-else-left-slots}
 

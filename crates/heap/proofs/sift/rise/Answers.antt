@@ -1,6 +1,6 @@
 use Rattle.std.proofs.Common.{◌<◌, length, sym, ◌∙◌, arith}
 use Rattle.heap.specs.Shape.{parent}
-use Rattle.heap.specs.Sifts.{rise-more, rise-stop, rise-top, swapped-places, swapped-sorted}
+use Rattle.heap.proofs.Sifts.{rise-more, rise-stop, rise-top, swapped-places, swapped-sorted}
 use Rattle.heap.proofs.sift.rise.Goals as goal
 
 pub returns-then-not-before : goal.returns-then-not-before

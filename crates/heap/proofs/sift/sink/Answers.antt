@@ -1,6 +1,6 @@
 use Rattle.std.proofs.Common.{◌<◌, length, sym, ◌∙◌, subst, arith}
 use Rattle.heap.specs.Shape.{Child}
-use Rattle.heap.specs.Sifts.{sink-more, sink-stop, sink-bottom, swapped-places, swapped-sorted}
+use Rattle.heap.proofs.Sifts.{sink-more, sink-stop, sink-bottom, swapped-places, swapped-sorted}
 use Rattle.heap.proofs.sift.sink.Goals as goal
 
 pub returns-then-not-before : goal.returns-then-not-before

@@ -1,7 +1,6 @@
-use Rattle.std.proofs.Common.{refl}
-use Rattle.heap.specs.Sorting.{sorted}
+use Rattle.std.proofs.Common.{rules}
+use Rattle.heap.proofs.Kept.{sorted-none}
 use Rattle.heap.proofs.binary.Heap.new.Goals as goal
 
-pub returns : goal.returns
-unfolding sorted
-returns c = record { kept = refl; capacity = refl; floor = refl }
+pub returns-clause-kept : goal.returns-clause-kept
+returns-clause-kept c = search (rules, sorted-none)

@@ -1,7 +1,6 @@
 use Rattle.std.proofs.Common.{rules}
-use Rattle.heap.specs.Sorting.{sorted}
+use Rattle.heap.proofs.Kept.{sorted-none}
 use Rattle.heap.proofs.binary.calls.HeapStore.empty.Goals as goal
 
-pub returns : goal.returns
-unfolding sorted
-returns c = search rules
+pub returns-clause-kept : goal.returns-clause-kept
+returns-clause-kept c = search (rules, sorted-none)

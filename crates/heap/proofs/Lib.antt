@@ -1,0 +1,4 @@
+pub mod Greatest
+pub mod Kept
+pub mod Sifts
+pub mod Writes
