@@ -1,5 +1,5 @@
 -- The laws of the spread check. Assumes nothing.
-use Rattle.std.proofs.Common.{◌≡◌, ℕ, ◌+◌, ◌-◌, ◌<◌, ◌≤◌, Bool, true, false, not, ◌&&◌, ltb, leb, List, [], ◌∷◌, ◌++◌, map, length, get_or, take, replicate, sym, refl, ap, ◌∙◌, ap₂, ⊎_elim, arith}
+use Rattle.std.proofs.Common.{◌≡◌, ℕ, ◌+◌, ◌-◌, ◌<◌, ◌≤◌, Bool, true, false, ◌&&◌, ltb, leb, List, [], ◌∷◌, ◌++◌, map, length, get_or, take, replicate, sym, refl, ap, ◌∙◌, ap₂, ⊎_elim, arith}
 use mathlib.Core.Bool.{xor}
 use Rattle.base.specs.Counts.{xor_below}
 use Rattle.std.proofs.lemmas.Bool.{le-leb, lt-leb, le-ltb, cases_lt, and_parts, and_from, not-true, not_from_false}
@@ -9,7 +9,6 @@ use Rattle.std.proofs.lemmas.Bool.Decides.{nat_tests}
 use Rattle.crc.specs.Division.{remainder}
 use Rattle.crc.specs.Spread.{width, longest, divisor, single, rows, enters, struck, order, interleaved, place_of, deinterleaved, sum_into, some_bit, enters_at, disagrees, broken, sound}
 use Rattle.crc.specs.declared.spread.Spread.{Spread}
-use Rattle.crc.specs.Lengths.{fitting}
 use Rattle.crc.proofs.Fitting.{fitting-tells, fitting-from}
 use Rattle.base.proofs.Transform.{xor-false-l, xor-below-same}
 use Rattle.crc.proofs.Xors.{xor_same, xor-equal}

@@ -2,11 +2,12 @@
 use Rattle.std.proofs.Common.{◌≡◌, ℕ, zero, suc, ◌+◌, ◌-◌, Bool, true, false, cond, ◌&&◌, List, [], ◌∷◌, ◌++◌, length, get_or, replicate, sym, refl, ap, ◌∙◌, ap₂, arith, length-append}
 use mathlib.Core.Bool.{xor}
 use lib.ListN.{length-replicate}
+use Rattle.std.proofs.Math.Bool.{and-true, and-false}
 use Rattle.base.specs.Counts.{xor_below}
 use Rattle.crc.specs.Division.{added, divided, remainder}
-use Rattle.crc.proofs.Remainders.{length-added, length-remainder}
+use Rattle.crc.proofs.Remainders.{length-added, length-chosen, length-remainder}
 use Rattle.base.proofs.Transform.{xor_assoc, xor-false-l, xor-below-same}
-use Rattle.crc.proofs.Xors.{xor_comm, xor_same, and-true, and-false, xor_below-first}
+use Rattle.crc.proofs.Xors.{xor_comm, xor_same, xor_below-first}
 
 -- additions in either order
 pub added-left : (ds xs ys : List Bool) → length xs ≡ length ys → added ds (added xs ys) ≡ added (added ds xs) ys
@@ -44,10 +45,6 @@ chosen-added ds xs ys true true h =
 chosen-added ds xs ys true false h = added-left ds xs ys h
 chosen-added ds xs ys false true h = added-right ds xs ys h
 chosen-added ds xs ys false false h = refl
-
-length-chosen : (ds xs : List Bool) (x : Bool) → length (cond x (added ds xs) xs) ≡ length xs
-length-chosen ds xs true = length-added ds xs
-length-chosen ds xs false = refl
 
 pub divided-added : (ds : List Bool) (n : ℕ) (xs ys : List Bool) → length xs ≡ length ys
     → divided ds n (added xs ys) ≡ added (divided ds n xs) (divided ds n ys)

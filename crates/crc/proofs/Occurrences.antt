@@ -1,5 +1,5 @@
 -- How often a number occurs in a list, where it stands, and what striking leaves of that. Assumes nothing.
-use Rattle.std.proofs.Common.{◌≡◌, ℕ, zero, suc, ◌+◌, ◌-◌, ◌<◌, ◌≤◌, Bool, true, false, cond, ◌&&◌, eqb, ltb, List, [], ◌∷◌, map, length, get_or, sym, refl, ap, ◌∙◌, ap₂, ⊎_elim, arith}
+use Rattle.std.proofs.Common.{◌≡◌, ℕ, zero, suc, ◌+◌, ◌-◌, ◌<◌, ◌≤◌, Bool, true, false, cond, ◌&&◌, eqb, ltb, List, [], ◌∷◌, map, length, get_or, sym, refl, ap, ◌∙◌, ap₂, ⊎_elim, arith, zero-add}
 use Rattle.std.proofs.lemmas.List.{ext_get_or, length-map, get_or-map}
 use Rattle.std.proofs.lemmas.Bool.{le-leb, lt-leb, ne_eqb, eq-eqb, cases_lt, cases_order, cases_eq, and_parts, and_from, ltb-true, lt-ltb}
 use Rattle.std.proofs.lemmas.Bool.Decides.{nat_tests}
@@ -29,9 +29,6 @@ pub struck-nil : (s : ℕ) → struck s [] ≡ []
 unfolding struck
 struck-nil s = refl
 
-zero-plus : (n : ℕ) → 0 + n ≡ n
-zero-plus n = omega arith
-
 cond-zero : (b : Bool) → counted b ≡ 0 → b ≡ false
 cond-zero true h = absurd (omega arith)
 cond-zero false h = refl
@@ -46,7 +43,7 @@ occurrences-struck k s (x ∷ xs) =
     ⊎_elim
     (λ l. let e : eqb (k + s) x ≡ false = ne_eqb (k + s) x (λ q. omega arith) in
     ap (occurrences k) (struck-out s x xs l) ∙ occurrences-struck k s xs
-    ∙ sym (ap (λ b. counted b + occurrences (k + s) xs) e ∙ zero-plus (occurrences (k + s) xs)))
+    ∙ sym (ap (λ b. counted b + occurrences (k + s) xs) e ∙ zero-add (occurrences (k + s) xs)))
     (λ g. ap (occurrences k) (struck-in s x xs g)
     ∙ ap₂ (λ b n. counted b + n) (eqb-shift k s x g) (occurrences-struck k s xs))
     (cases_lt x s)

@@ -17,7 +17,7 @@ length-added [] bs = refl
 length-added (d ∷ ds) [] = refl
 length-added (d ∷ ds) (b ∷ bs) = ap suc (length-added ds bs)
 
-length-chosen : (ds bs : List Bool) (b : Bool) → length (cond b (added ds bs) bs) ≡ length bs
+pub length-chosen : (ds bs : List Bool) (b : Bool) → length (cond b (added ds bs) bs) ≡ length bs
 length-chosen ds bs true = length-added ds bs
 length-chosen ds bs false = refl
 

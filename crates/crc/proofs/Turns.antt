@@ -1,25 +1,23 @@
 -- The turns of the loops of the spread check, along the bits of its word. Assumes nothing.
-use Rattle.std.proofs.Common.{◌≡◌, ℕ, suc, ◌+◌, ◌-◌, ◌/◌, ◌^◌, ◌<◌, ◌≤◌, Bool, true, false, not, ◌&&◌, ◌||◌, eqb, ltb, leb, List, [], ◌∷◌, ◌++◌, map, length, get_or, take, drop, set, sym, refl, ap, ◌∙◌, ap₂, arith}
+use Rattle.std.proofs.Common.{◌≡◌, ℕ, suc, ◌+◌, ◌-◌, ◌/◌, ◌^◌, ◌<◌, ◌≤◌, Bool, true, false, not, ◌&&◌, ◌||◌, eqb, leb, List, [], ◌∷◌, ◌++◌, map, length, get_or, take, set, sym, refl, ap, ◌∙◌, arith}
 use mathlib.Core.Bool.{xor, beq}
 use lib.Bits.{bit_and, and_mask}
 use Rattle.base.specs.Counts.{xor_below}
-use Rattle.std.proofs.lemmas.List.{drop_more, drop_all, take_more_set, take_all, append-nil, append_assoc, length-take, length-append}
+use Rattle.std.proofs.lemmas.List.{take_more_set, take_all, append-nil, append_assoc, length-take, length-append}
 use Rattle.std.proofs.lemmas.List.FromFn.{fill_by_all}
 use Rattle.std.proofs.lemmas.Bool.{lt-ltb, le-ltb, le-leb, or_left}
-use Rattle.std.proofs.lemmas.Bool.Decides.{nat_tests}
 use Rattle.crc.specs.Division.{remainder}
 use Rattle.base.specs.Bits.{bit_of}
-use Rattle.crc.specs.Spread.{width, longest, divisor, rows, enters, placed, struck, order, interleaved, place_of, deinterleaved, enters_at, broken}
+use Rattle.crc.specs.Spread.{width, longest, divisor, rows, enters, order, interleaved, place_of, deinterleaved, enters_at, broken}
 use Rattle.crc.specs.declared.spread.Spread.{Spread}
 use Rattle.crc.proofs.Xors.{xor_comm}
 use Rattle.crc.proofs.Remainders.{unlike-xor}
-use Rattle.crc.proofs.Occurrences.{occurrences, struck-in, struck-out, struck-nil, gathered}
+use Rattle.crc.proofs.Occurrences.{occurrences, gathered}
 use Rattle.crc.proofs.Walks.{walk, walk_same}
-use Rattle.crc.proofs.Tables.{placed-places, places-long}
 use Rattle.base.proofs.Bits.{bit-zero}
 use Rattle.base.proofs.Transform.{xor-below-same}
 use Rattle.crc.proofs.Scatters.{scattered, length-scattered, scattered-at}
-use Rattle.crc.proofs.Interleaving.{order-long, order-once, order-each, enters-struck, broken-walk, checks-sum, whole, whole-check, whole-payload, length-interleaved}
+use Rattle.crc.proofs.Interleaving.{order-long, order-once, order-each, broken-walk, checks-sum, whole, length-interleaved}
 
 pub odd-bit : (n j : ℕ) → eqb (bit_and (n / 2 ^ j) 1) 1 ≡ bit_of n j
 unfolding bit_of

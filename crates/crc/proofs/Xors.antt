@@ -1,5 +1,5 @@
 -- More laws of exclusive or, and of its sum over the numbers below a bound. Assumes nothing.
-use Rattle.std.proofs.Common.{◌≡◌, ℕ, zero, suc, Bool, true, false, ◌&&◌, sym, refl, ap, ◌∙◌}
+use Rattle.std.proofs.Common.{◌≡◌, ℕ, zero, suc, Bool, true, false, sym, refl, ap, ◌∙◌}
 use mathlib.Core.Bool.{xor}
 use Rattle.base.specs.Counts.{xor_below}
 use Rattle.base.proofs.Transform.{xor_assoc}
@@ -27,14 +27,6 @@ xor-equal true true h = refl
 xor-equal true false h = cc
 xor-equal false true h = cc
 xor-equal false false h = refl
-
-pub and-true : (x : Bool) → (x && true) ≡ x
-and-true true = refl
-and-true false = refl
-
-pub and-false : (x : Bool) → (x && false) ≡ false
-and-false true = refl
-and-false false = refl
 
 -- the first one apart
 pub xor_below-first : (f : ℕ → Bool) (n : ℕ) → xor_below f (suc n) ≡ xor (f 0) (xor_below (λ i. f (suc i)) n)

@@ -5,7 +5,7 @@ use Rattle.base.proofs.Bits.{bit-xor}
 use Rattle.base.proofs.Transform.{xor-false-r}
 use Rattle.crc.specs.Spread.{longest, rows, enters, enters_at}
 use Rattle.crc.proofs.Turns.{row-entered, check-enters-none}
-use Rattle.crc.proofs.Xors.{and-false, and-true}
+use Rattle.std.proofs.Math.Bool.{and-false, and-true}
 use Rattle.outer.proofs.layout.Layout.entered.Goals as goal
 use Rattle.outer.proofs.layout.Layout.entered.Goals.{else-value-via-then-value+else-bit-self, else-value-via-else-value}
 
