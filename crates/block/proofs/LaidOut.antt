@@ -1,7 +1,9 @@
 -- A granted file is its three fields and nothing else, and such a file is granted. Assumes nothing.
-use Rattle.std.proofs.Common.{◌≡◌, ℕ, zero, suc, ◌+◌, ◌*◌, ◌/◌, ◌%◌, ◌<◌, ◌≤◌, Bool, true, false, ◌&&◌, eqb, List, [], ◌∷◌, ◌++◌, length, get_or, take, drop, Some, None, Option, sym, refl, ap, ◌∙◌, subst, append_assoc, append-nil, add_assoc, add-one, arith, length-append, take-append-drop, drop-cons, drop-drop, get_or-append-add, eqb-true}
-use lib.Seq.{drop-nil, drop-append-add, take-append_seam, get_or-append_seam}
+use Rattle.std.proofs.Common.{◌≡◌, ℕ, ◌+◌, ◌*◌, ◌/◌, ◌%◌, ◌<◌, ◌≤◌, true, eqb, List, [], ◌∷◌, ◌++◌, length, get_or, take, drop, Some, None, Option, sym, refl, ap, ◌∙◌, subst, append_assoc, append-nil, add_assoc, arith, length-append, take-append-drop, drop-drop, get_or-append-add, eqb-true}
+use lib.Seq.{drop-append-add, take-append_seam, get_or-append_seam}
 use Rattle.std.proofs.lemmas.Bool.Decides.{nat_tests}
+use Rattle.std.proofs.lemmas.List.{drop_all, drop_more}
+use Rattle.std.specs.Cmp.{first_so, second_so}
 use Rattle.base.specs.declared.refusal.Refusal.{Refusal}
 use Rattle.block.specs.declared.due.Due.{Due}
 use Rattle.block.specs.declared.due.Due.TheVariants.{Plan, Search, Values}
@@ -27,15 +29,12 @@ high x y n h e = omega arith
 low : (x y n : ℕ) → y < 256 → x * 256 + y ≡ n → y ≡ n % 256
 low x y n h e = omega arith
 
-drop-next : (xs : List ℕ) (i : ℕ) → i < length xs → drop i xs ≡ get_or xs i 0 ∷ drop (i + 1) xs
-drop-next xs i h = rw add-one (drop-cons xs i 0 h)
-
 split-three : (xs : List ℕ) (i : ℕ) → i + 3 ≤ length xs
     → drop i xs ≡ get_or xs i 0 ∷ get_or xs (i + 1) 0 ∷ get_or xs (i + 1 + 1) 0 ∷ drop (i + 3) xs
 split-three xs i h =
-    let a = drop-next xs i (omega arith) in
-    let b = drop-next xs (i + 1) (omega arith) in
-    let c = drop-next xs (i + 1 + 1) (omega arith) in
+    let a = drop_more xs i 0 (omega arith) in
+    let b = drop_more xs (i + 1) 0 (omega arith) in
+    let c = drop_more xs (i + 1 + 1) 0 (omega arith) in
     let d : i + 1 + 1 + 1 ≡ i + 3 = omega arith in
     let e = ap (λ (k : ℕ). drop k xs) d in
     cc
@@ -58,16 +57,8 @@ field-splits input at due bytes h =
     ∙ ap (λ (r : List ℕ). body_at input at due ++ r) (drop-drop (length_of due) (at + 3) input))
 
 first-none : (a b : Option Refusal) → first_of a b ≡ None → (a ≡ None) × (b ≡ None)
-first-none (Some e) b h = let z : ◌≡◌ {A = ℕ} 0 1 = cc in absurd (omega arith)
+first-none (Some e) b h = absurd (cc)
 first-none None b h = (refl, h)
-
-all_none : (a b c d : Option Refusal) → a ≡ None → b ≡ None → c ≡ None → d ≡ None → first_of a (first_of b (first_of c d)) ≡ None
-all_none a b c d p q r s = cc
-
-drop_past : (xs : List ℕ) (n : ℕ) → length xs ≤ n → drop n xs ≡ []
-drop_past [] n h = drop-nil n
-drop_past (x ∷ xs) zero h = absurd (omega arith)
-drop_past (x ∷ xs) (suc n) h = drop_past xs n (omega arith)
 
 pub granted-files-are-laid-out : GrantedFilesAreLaidOut
 granted-files-are-laid-out input bytes h =
@@ -79,7 +70,7 @@ granted-files-are-laid-out input bytes h =
     let b = field-splits input search_at Search bytes two.0 in
     let c = field-splits input values_at (Values sent) bytes three.0 in
     let short : length input ≤ end_at sent = grind (arith, nat_tests) in
-    let d = drop_past input (end_at sent) short in
+    let d = drop_all (end_at sent) input short in
     let plan = body_at input plan_at Plan in
     let limits = body_at input search_at Search in
     let values = body_at input values_at (Values sent) in
@@ -99,17 +90,13 @@ granted-files-are-laid-out input bytes h =
       ),
     )
 
-both : (a b : Bool) → a && b ≡ true → (a ≡ true) × (b ≡ true)
-both true b h = (refl, h)
-both false b h = let z : ◌≡◌ {A = ℕ} 0 1 = cc in absurd (omega arith)
-
 -- a sound field that stands at the end of what comes before it
 module _ (pre body post : List ℕ) (due : Due) (good : sound due body ≡ true) where
   abbrev file : List ℕ
   file = pre ++ (written (tag_of due) body ++ post)
 
   whole_length : length body ≡ length_of due
-  whole_length = eqb-true _ _ (both (eqb (length body) (length_of due)) _ good).0
+  whole_length = eqb-true _ _ (first_so (eqb (length body) (length_of due)) _ good)
 
   body_back : body_at file (length pre) due ≡ body
   body_back =
@@ -125,7 +112,7 @@ module _ (pre body post : List ℕ) (due : Due) (good : sound due body ≡ true)
       let lo : get_or file (length pre + 1 + 1) 0 ≡ length body % 256 =
       ap (λ (k : ℕ). get_or file k 0) (add_assoc (length pre) 1 1) ∙ get_or-append-add pre (written (tag_of due) body ++ post) 2 0 in
       let back = ap (listed due) body_back in
-      let codes = (both (eqb (length body) (length_of due)) _ good).1 in
+      let codes = second_so (eqb (length body) (length_of due)) _ good in
       let len = whole_length in
       grind (arith, nat_tests)
 
@@ -156,6 +143,6 @@ laid-out-files-are-granted input plan limits values laid =
     let grant : sent_of (written 1 plan ++ rest) ≡ sent =
     ap (λ (body : List ℕ). wide body 3) (body_back [] plan rest Plan laid.plan-sound) in
     subst (λ (file : List ℕ). file_fault file ≡ None) (sym laid.whole)
-    (all_none _ _ _ _ one two
-    (subst (λ (e : ℕ). field_fault (written 1 plan ++ rest) values_at (Values e) ≡ None) (sym grant) three)
-    (subst (λ (e : ℕ). tail_fault (written 1 plan ++ rest) (end_at e) ≡ None) (sym grant) four))
+    (let five : field_fault (written 1 plan ++ rest) values_at (Values (sent_of (written 1 plan ++ rest))) ≡ None = rw grant three in
+    let six : tail_fault (written 1 plan ++ rest) (end_at (sent_of (written 1 plan ++ rest))) ≡ None = rw grant four in
+    cc)

@@ -18,13 +18,9 @@ abbrev pub store_of : ℕ → Option StoreCode
 store_of code = cond (code == 0) (Some store.Table) (cond (code == 1) (Some store.Heap) None)
 
 -- what reading a code answers: what it names, or the code itself where it is not listed
-abbrev pub CheckListed : ℕ → Result CheckCode Unlisted → Type 0
-CheckListed code (Ok c) = check_of code ≡ Some c
-CheckListed code (Err e) = (check_of code ≡ None) × (e.0 ≡ code)
-
-abbrev pub StoreListed : ℕ → Result StoreCode Unlisted → Type 0
-StoreListed code (Ok s) = store_of code ≡ Some s
-StoreListed code (Err e) = (store_of code ≡ None) × (e.0 ≡ code)
+abbrev pub Named : {A : Type 0} → (ℕ → Option A) → ℕ → Result A Unlisted → Type 0
+Named of code (Ok named) = of code ≡ Some named
+Named of code (Err e) = (of code ≡ None) × (e.0 ≡ code)
 
 -- the check bits L of a check
 abbrev pub check_bits : CheckCode → ℕ

@@ -6,8 +6,6 @@ use Rattle.block.specs.declared.due.Due.{Due}
 use Rattle.block.specs.declared.due.Due.TheVariants as due
 use Rattle.block.specs.declared.field.Field.{Field}
 use Rattle.block.specs.declared.reader.Block.{Block}
-use Rattle.block.specs.declared.numbers.PlanNumbers.{PlanNumbers}
-use Rattle.block.specs.declared.numbers.SearchNumbers.{SearchNumbers}
 use Rattle.block.specs.Fields.{length_of, listed, PlanHolds, SearchHolds}
 use Rattle.block.specs.File.{body_at, field_fault, file_fault, plan_at, search_at, values_at, sent_of}
 

@@ -1,6 +1,6 @@
 // The codes by which a block file names an outer check and a candidate store. Assumes nothing.
 ghost use Rattle.std.specs.Prelude.{◌≡◌};
-ghost use Rattle.block.specs.Codes.{CheckListed, StoreListed, check_code, store_code, check_bits, longest_payload};
+ghost use Rattle.block.specs.Codes.{Named, check_of, store_of, check_code, store_code, check_bits, longest_payload};
 
 use crate::unlisted::Unlisted;
 use std::fmt;
@@ -49,7 +49,7 @@ impl CheckCode {
 impl TryFrom<u8> for CheckCode {
     type Error = Unlisted;
 
-    ghost try_from_gives = { CheckListed };
+    ghost try_from_gives = { Named check_of };
 
     fn try_from(code: u8) -> Result<CheckCode, Unlisted> {
         match code {
@@ -96,7 +96,7 @@ pub enum StoreCode {
 impl TryFrom<u8> for StoreCode {
     type Error = Unlisted;
 
-    ghost try_from_gives = { StoreListed };
+    ghost try_from_gives = { Named store_of };
 
     fn try_from(code: u8) -> Result<StoreCode, Unlisted> {
         match code {

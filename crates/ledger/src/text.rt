@@ -1,5 +1,5 @@
 // The ledger as text. Tested, not proved: that it is written, and not what.
-use crate::entry::bit_entry;
+use crate::entry::{BitEntry, bit_entry};
 use bits::Row;
 use cost::Soft;
 use cost::value::contradiction;
@@ -23,10 +23,6 @@ fn kind_name(kind: Kind) -> &'static str {
     }
 }
 
-fn digit(bit: bool) -> u8 {
-    if bit { 1 } else { 0 }
-}
-
 impl fmt::Display for Account {
     fn fmt<W: fmt::Write>(&self, f: &mut fmt::Formatter<W>) -> fmt::Result {
         let cost = write_bits(f, self)?;
@@ -39,24 +35,24 @@ impl fmt::Display for Account {
     }
 }
 
-// A line for each bit; answers the sum.
+// A line for each bit with the sum so far; answers the sum.
 fn write_bits<W: fmt::Write>(
     f: &mut fmt::Formatter<W>,
     account: &Account,
 ) -> Result<u32, fmt::Error> {
     let mut sum = 0u32;
     for i in 0..account.bits {
-        if let Some(entry) = bit_entry(&account.plan, &account.soft, &account.row, i) {
-            let name = kind_name(account.plan.kind(i));
-            let value = entry.value;
-            let bit = digit(entry.bit);
-            let cost = entry.cost;
-            sum = sum.saturating_add(cost);
-            writeln!(
-                f,
-                "position {i} {name}: value {value}, bit {bit} costs {cost}, sum {sum}"
-            )?;
-        }
+        let Some(entry) = bit_entry(&account.plan, &account.soft, &account.row, i) else {
+            break;
+        };
+        let name = kind_name(account.plan.kind(i));
+        let BitEntry { value, bit, cost } = entry;
+        let bit = u8::from(bit);
+        sum = sum.saturating_add(cost);
+        writeln!(
+            f,
+            "position {i} {name}: value {value}, bit {bit} costs {cost}, sum {sum}"
+        )?;
     }
     Ok(sum)
 }
@@ -65,15 +61,14 @@ fn write_bits<W: fmt::Write>(
 fn write_codeword<W: fmt::Write>(f: &mut fmt::Formatter<W>, account: &Account) -> fmt::Result {
     let mut code = account.row;
     code.transform(usize::from(account.plan.log_length()));
-    let mut sum = 0u32;
-    for i in 0..account.plan.length() {
+    let length = account.plan.length();
+    let by = |i: usize| contradiction(account.soft.llr(i), code.get(i));
+    for i in (0..length).filter(|i| by(*i) > 0) {
+        let bit = u8::from(code.get(i));
         let llr = account.soft.llr(i);
-        let by = contradiction(llr, code.get(i));
-        if by > 0 {
-            let bit = digit(code.get(i));
-            sum = sum.saturating_add(by);
-            writeln!(f, "place {i}: code bit {bit} contradicts {llr} by {by}")?;
-        }
+        let by = by(i);
+        writeln!(f, "place {i}: code bit {bit} contradicts {llr} by {by}")?;
     }
+    let sum = (0..length).fold(0u32, |sum, i| sum.saturating_add(by(i)));
     writeln!(f, "codeword contradicts {sum}")
 }

@@ -1,38 +1,27 @@
 //! Reads a block file from standard input and the bits of a path from its argument, and prints what each bit costs.
 #![tactic(auto)]
 
-use anyhow::anyhow;
+mod path;
+
+use anyhow::Context;
 use base::Refusal;
-use bits::Row;
 use block::examine;
 use ledger::{Account, soft_values};
+use path::PathBits;
 use plan::Plan;
 use std::env;
 use std::io::Read;
 
-// The path that a text of noughts and ones spells.
-fn path_of(text: &str) -> Option<Row> {
-    let mut row = Row::zero();
-    for (k, c) in text.bytes().enumerate() {
-        match c {
-            b'0' => {}
-            b'1' => row.set(k, true),
-            _ => return None,
-        }
-    }
-    Some(row)
-}
-
-fn account(input: &[u8], row: Row, bits: usize) -> Result<Account, Refusal> {
+fn account(input: &[u8], path: PathBits) -> Result<Account, Refusal> {
     let block = examine(input)?;
     let mut plan = Plan::builtin();
     plan.make(&block.plan.request())?;
     let soft = soft_values(&plan, block.fields.values.body)?;
-    let bits = bits.min(plan.length());
+    let bits = path.count.min(plan.length());
     Ok(Account {
         plan,
         soft,
-        row,
+        row: path.row,
         bits,
     })
 }
@@ -42,13 +31,9 @@ fn run(rt: &HostRuntime) -> anyhow::Result<()> {
     rt.stdin().read_to_end(&mut input)?;
     let mut args = env::args(rt)?;
     let _ = args.next();
-    let Some(text) = args.next() else {
-        return Err(anyhow!("name the bits of a path, as 0010"));
-    };
-    let Some(row) = path_of(text.as_str()) else {
-        return Err(anyhow!("a path is noughts and ones"));
-    };
-    match account(input.as_slice(), row, text.len()) {
+    let text = args.next().context("name the bits of a path, as 0010")?;
+    let path: PathBits = text.parse()?;
+    match account(input.as_slice(), path) {
         Ok(account) => rt.print(account)?,
         Err(fault) => println!(rt; "fault {fault}")?,
     }

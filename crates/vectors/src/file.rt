@@ -12,17 +12,14 @@ pub const WORKED: [u8; 91] = [
 ];
 
 fn fault(input: &[u8]) -> Option<Refusal> {
-    match examine(input) {
-        Ok(_) => None,
-        Err(e) => Some(e),
-    }
+    examine(input).err()
 }
 
 // The worked file with another byte at k.
 fn altered(k: usize, byte: u8) -> Option<Refusal> {
     let mut file = WORKED;
-    if k < file.len() {
-        file[k] = byte;
+    if let Some(old) = file.get_mut(k) {
+        *old = byte;
     }
     fault(&file)
 }
@@ -110,9 +107,7 @@ fn the_order_of_examination_decides(rt: HostRuntime) {
 #[test]
 fn bytes_after_the_last_field_are_refused_where_they_begin(rt: HostRuntime) {
     let mut longer = [0u8; 92];
-    for (to, from) in longer.iter_mut().zip(WORKED.iter()) {
-        *to = *from;
-    }
+    longer[..91].copy_from_slice(&WORKED);
     assert_eq!(rt; fault(&longer), Some(Refusal::Tag { at: 91 }));
 }
 

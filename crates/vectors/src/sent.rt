@@ -56,9 +56,7 @@ fn a_one_at_the_last_position_is_sent_everywhere(rt: HostRuntime) -> Result<(), 
     let request = worked(rt.alloc(), &[0, 0, 0, 1], &[])?;
     let sending = send(rt.alloc(), &request)?;
     assert_eq!(rt; sending.sent.len(), 32);
-    for bit in &sending.sent {
-        assert_eq!(rt; *bit, 1);
-    }
+    assert!(rt; sending.sent.iter().all(|bit| *bit == 1));
     Ok(())
 }
 
