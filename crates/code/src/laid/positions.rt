@@ -27,12 +27,9 @@ pub fn place_word(plan: &Plan, word: &[bool]) -> Row
     ensures { (i : ℕ) → row_bit result i ≡ (is_information (kind_at plan.now i) && word_bit_at (kind_at plan.now) word.now i) }
 {
     let mut row = Row::zero();
-    let mut next = 0;
-    for i in 0..plan.length() {
-        if is_information(plan, i) {
-            row.set(i, word[next]);
-            next += 1;
-        }
+    let positions = (0..plan.length()).filter(|i| is_information(plan, *i));
+    for (i, bit) in positions.zip(word) {
+        row.set(i, *bit);
     }
     row
 }
