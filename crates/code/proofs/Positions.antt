@@ -1,6 +1,6 @@
 -- Laying, position by position: word bits on information positions, then the parity sums, and that the outcome is lawful.
 -- Assumes nothing; kinds are frozen beyond the block where a lemma says so.
-use Rattle.std.proofs.Common.{◌≡◌, ℕ, zero, suc, ◌+◌, ◌-◌, ◌%◌, ◌<◌, ◌≤◌, Bool, true, false, cond, ◌&&◌, eqb, ltb, List, [], ◌∷◌, ◌++◌, length, get_or, sym, refl, ap, ◌∙◌, inl, inr, arith, subst, length-append}
+use Rattle.std.proofs.Common.{◌≡◌, ℕ, zero, suc, ◌+◌, ◌-◌, ◌%◌, ◌<◌, ◌≤◌, Bool, true, false, cond, ◌&&◌, ◌||◌, eqb, ltb, List, [], ◌∷◌, ◌++◌, length, get_or, sym, refl, ap, ◌∙◌, inl, inr, arith, subst, length-append}
 use Rattle.std.proofs.Math.Seq.{get_or-append_seam}
 use Rattle.std.proofs.lemmas.List.{get_or_append_left, get_or_default, append-nil}
 use Rattle.std.proofs.lemmas.List.Elements.{filter-append}
@@ -85,26 +85,55 @@ nth-filtered p (suc m) n d inside =
     ] in
     whole inside
 
+-- number j is among the first n that have p
+abbrev pub among : (p : ℕ → Bool) (n j : ℕ) → Bool
+among p n j = ltb (count_below p j) n && p j
+
+other-place : (p : ℕ → Bool) (i j n : ℕ) → count_below p i ≡ n → p i ≡ true → p j ≡ true → (j ≡ i → ⊥) → count_below p j ≡ n → ⊥
+other-place p i j n at here there ne same =
+    elim (cases_lt i j) [
+      | inl l ↦ (let less = count-passes p i j l here in omega arith)
+      | inr g ↦ elim (cases_eq j i) [
+        | inl e ↦ ne e
+        | inr m ↦ (let less = count-passes p j i (omega arith) there in omega arith)
+      ]
+    ]
+
+among-more : (p : ℕ → Bool) (m n i : ℕ) → Nth p m n i → (j : ℕ) → among p (n + 1) j ≡ (eqb j i || among p n j)
+among-more p m n i nth j =
+    let has = nth.has in
+    let count = nth.count in
+    elim (cases_eq j i) [
+      | inl e ↦
+          let same : count_below p j ≡ n = ap (count_below p) e ∙ count in
+          let here : p j ≡ true = ap p e ∙ has in
+          grind (arith, nat_tests)
+      | inr ne ↦ elim (cases_Bool (p j)) [
+        | inl here ↦ (let other = other-place p i j n count has here ne in grind (arith, nat_tests))
+        | inr out ↦ grind (arith, nat_tests)
+      ]
+    ]
+
+among-all : (p : ℕ → Bool) (m n : ℕ) → n ≡ count_below p m → ((j : ℕ) → m ≤ j → p j ≡ false) → (j : ℕ) → among p n j ≡ p j
+among-all p m n all beyond j =
+    elim (cases_Bool (p j)) [
+      | inl here ↦ elim (cases_lt j m) [
+        | inl l ↦ (let passes = count-passes p j m l here in grind (arith, nat_tests))
+        | inr g ↦ absurd (both_ways (p j) (beyond j g) here)
+      ]
+      | inr out ↦ grind (arith, nat_tests)
+    ]
+
 module _ (kinds : ℕ → Kind) (word : List Bool) where
   abbrev info : ℕ → Bool
   info j = is_information (kinds j)
 
   -- the first n information positions carry their word bits
   abbrev pub Placed : ℕ → (ℕ → Bool) → Type 0
-  Placed n u = (j : ℕ) → u j ≡ (ltb (count_below info j) n && (info j && word_bit_at kinds word j))
+  Placed n u = (j : ℕ) → u j ≡ (among info n j && word_bit_at kinds word j)
 
   pub placed-none : (u : ℕ → Bool) → ((j : ℕ) → u j ≡ false) → Placed 0 u
   placed-none u zeros j = zeros j ∙ grind (arith, nat_tests)
-
-  one-of : (i j n : ℕ) → count_below info i ≡ n → info i ≡ true → info j ≡ true → (j ≡ i → ⊥) → count_below info j ≡ n → ⊥
-  one-of i j n at here there ne same =
-      elim (cases_lt i j) [
-        | inl l ↦ (let less = count-passes info i j l here in omega arith)
-        | inr g ↦ elim (cases_eq j i) [
-          | inl e ↦ ne e
-          | inr m ↦ (let less = count-passes info j i (omega arith) there in omega arith)
-        ]
-      ]
 
   -- one more position gets its bit
   pub placed-more : (m n i : ℕ) (bit : Bool) (u v : ℕ → Bool) → m ≤ 1024 → n < length (zip (filter info (range_with_len 0 m)) word)
@@ -117,26 +146,18 @@ module _ (kinds : ℕ → Kind) (word : List Bool) where
       let k : n < length word = omega arith in
       let pair : ◌≡◌ {A = ℕ × Bool} (i, bit) (get_or ks n i, get_or word n bit) = is ∙ get_or-zip ks word n (i, bit) l k in
       let at : i ≡ get_or ks n i = ap (λ (q : ℕ × Bool). q.0) pair in
-      let carries : bit ≡ get_or word n bit = ap (λ (q : ℕ × Bool). q.1) pair in
       let nth : Nth info m n i = subst (Nth info m n) (sym at) (nth-filtered info m n i l) in
       let below = nth.below in
-      let has = nth.has in
-      let count = nth.count in
+      let more = among-more info m n i nth j in
       let was = placed j in
       let now-is = set j in
       elim (cases_eq j i) [
         | inl e ↦
-            let same : count_below info j ≡ n = ap (count_below info) e ∙ count in
-            let here : info j ≡ true = ap info e ∙ has in
             let mine : word_bit_at kinds word j ≡ bit =
-            ap (λ (c : ℕ). get_or word c false) same ∙ get_or_default word n false bit k ∙ sym carries in
+            ap (λ (c : ℕ). get_or word c false) (ap (count_below info) e ∙ nth.count) ∙ get_or_default word n false bit k
+            ∙ sym (ap (λ (q : ℕ × Bool). q.1) pair) in
             grind (arith, nat_tests)
-        | inr ne ↦ elim (cases_Bool (info j)) [
-          | inl here ↦
-              let other = one-of i j n count has here ne in
-              grind (arith, nat_tests)
-          | inr out ↦ grind (arith, nat_tests)
-        ]
+        | inr ne ↦ grind (arith, nat_tests)
       ]
 
   pub placed-all : (m n : ℕ) (u : ℕ → Bool) → ((j : ℕ) → m ≤ j → kinds j ≡ Frozen) → n ≡ length (zip (filter info (range_with_len 0 m)) word)
@@ -144,15 +165,7 @@ module _ (kinds : ℕ → Kind) (word : List Bool) where
   placed-all m n u beyond whole long placed j =
       let size = length-zip (filter info (range_with_len 0 m)) word in
       let some = filtered-length info m in
-      let all : n ≡ count_below info m = omega arith in
-      let was = placed j in
-      elim (cases_Bool (info j)) [
-        | inl here ↦ elim (cases_lt j m) [
-          | inl l ↦ (let passes = count-passes info j m l here in grind (arith, nat_tests))
-          | inr g ↦ absurd (both_ways (info j) (ap is_information (beyond j g)) here)
-        ]
-        | inr out ↦ grind (arith, nat_tests)
-      ]
+      placed j ∙ ap (λ (b : Bool). b && word_bit_at kinds word j) (among-all info m n (omega arith) (λ k g. ap is_information (beyond k g)) j)
 
 -- parity sums
 
@@ -179,46 +192,42 @@ information-carries Frozen h = refl
 information-carries Information h = refl
 information-carries Parity h = absurd (both_ways false refl h)
 
--- the parity positions below i hold their sums
-abbrev pub Summed : (kinds : ℕ → Kind) (start : ℕ → Bool) (i : ℕ) (u : ℕ → Bool) → Type 0
-Summed kinds start i u = (j : ℕ) → u j ≡ cond (ltb j i && is_parity (kinds j)) (parity_sum kinds start j) (start j)
+-- the first n parity positions hold their sums
+abbrev pub Summed : (kinds : ℕ → Kind) (start : ℕ → Bool) (n : ℕ) (u : ℕ → Bool) → Type 0
+Summed kinds start n u = (j : ℕ) → u j ≡ cond (among (λ i. is_parity (kinds i)) n j) (parity_sum kinds start j) (start j)
 
 module _ (kinds : ℕ → Kind) (start : ℕ → Bool) where
-  same_sum : (i : ℕ) (u : ℕ → Bool) → Summed kinds start i u → parity_sum kinds u i ≡ parity_sum kinds start i
-  same_sum i u summed =
+  abbrev parities : ℕ → Bool
+  parities j = is_parity (kinds j)
+
+  same_sum : (n i : ℕ) (u : ℕ → Bool) → Summed kinds start n u → parity_sum kinds u i ≡ parity_sum kinds start i
+  same_sum n i u summed =
       parity-same kinds u start i
       (λ j s. summed j ∙ let no-sum = information-carries (kinds j) s in grind (arith, nat_tests))
 
-  pub summed-parity : (i : ℕ) (sum : Bool) (u v : ℕ → Bool) → Summed kinds start i u → i < 1024 → is_parity (kinds i) ≡ true
-      → sum ≡ parity_sum kinds u i → ((j : ℕ) → v j ≡ set_bit u i sum j) → Summed kinds start (i + 1) v
-  summed-parity i sum u v summed l here is set j =
-      let whole : sum ≡ parity_sum kinds start i = is ∙ same_sum i u summed in
+  pub summed-none : (u : ℕ → Bool) → ((j : ℕ) → u j ≡ start j) → Summed kinds start 0 u
+  summed-none u same j = same j ∙ grind (arith, nat_tests)
+
+  -- one more position gets its sum
+  pub summed-more : (m n i : ℕ) (sum : Bool) (u v : ℕ → Bool) → m ≤ 1024 → n < length (filter parities (range_with_len 0 m))
+      → i ≡ get_or (filter parities (range_with_len 0 m)) n i → Summed kinds start n u → sum ≡ parity_sum kinds u i
+      → ((j : ℕ) → v j ≡ set_bit u i sum j) → Summed kinds start (n + 1) v
+  summed-more m n i sum u v most inside at summed is set j =
+      let nth : Nth parities m n i = subst (Nth parities m n) (sym at) (nth-filtered parities m n i inside) in
+      let below = nth.below in
+      let more = among-more parities m n i nth j in
       let was = summed j in
       let now-is = set j in
       elim (cases_eq j i) [
-        | inl e ↦
-            let at : is_parity (kinds j) ≡ true = ap (λ (m : ℕ). is_parity (kinds m)) e ∙ here in
-            let goes : sum ≡ parity_sum kinds start j = whole ∙ sym (ap (parity_sum kinds start) e) in
-            grind (arith, nat_tests)
+        | inl e ↦ (let goes : sum ≡ parity_sum kinds start j = is ∙ same_sum n i u summed ∙ sym (ap (parity_sum kinds start) e) in grind (arith, nat_tests))
         | inr ne ↦ grind (arith, nat_tests)
       ]
 
-  pub summed-other : (i : ℕ) (u : ℕ → Bool) → Summed kinds start i u → is_parity (kinds i) ≡ false → Summed kinds start (i + 1) u
-  summed-other i u summed here j =
-      let was = summed j in
-      elim (cases_eq j i) [
-        | inl e ↦ (let at : is_parity (kinds j) ≡ false = ap (λ (m : ℕ). is_parity (kinds m)) e ∙ here in grind (arith, nat_tests))
-        | inr ne ↦ grind (arith, nat_tests)
-      ]
-
-  pub summed-all : (n : ℕ) (u : ℕ → Bool) → ((j : ℕ) → n ≤ j → kinds j ≡ Frozen) → Summed kinds start n u
-      → (j : ℕ) → u j ≡ cond (is_parity (kinds j)) (parity_sum kinds start j) (start j)
-  summed-all n u beyond summed j =
-      let was = summed j in
-      elim (cases_lt j n) [
-        | inl l ↦ grind (arith, nat_tests)
-        | inr g ↦ (let out : is_parity (kinds j) ≡ false = ap is_parity (beyond j g) in grind (arith, nat_tests))
-      ]
+  pub summed-all : (m n : ℕ) (u : ℕ → Bool) → ((j : ℕ) → m ≤ j → kinds j ≡ Frozen) → n ≡ length (filter parities (range_with_len 0 m))
+      → Summed kinds start n u → (j : ℕ) → u j ≡ cond (is_parity (kinds j)) (parity_sum kinds start j) (start j)
+  summed-all m n u beyond whole summed j =
+      let all : n ≡ count_below parities m = whole ∙ filtered-length parities m in
+      summed j ∙ ap (λ (b : Bool). cond b (parity_sum kinds start j) (start j)) (among-all parities m n all (λ k g. ap is_parity (beyond k g)) j)
 
 -- the laid word
 

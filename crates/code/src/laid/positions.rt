@@ -52,10 +52,8 @@ pub fn parity_sum(plan: &Plan, row: &Row, i: usize) -> bool
 pub fn add_parity(plan: &Plan, row: &mut Row)
     ensures { (i : ℕ) → row_bit row.new i ≡ (if is_parity (kind_at plan.now i) then parity_sum (kind_at plan.now) (row_bit row.old) i else row_bit row.old i) }
 {
-    for i in 0..plan.length() {
-        if is_parity(plan, i) {
-            let sum = parity_sum(plan, row, i);
-            row.set(i, sum);
-        }
+    for i in (0..plan.length()).filter(|i| is_parity(plan, *i)) {
+        let sum = parity_sum(plan, row, i);
+        row.set(i, sum);
     }
 }
