@@ -1,4 +1,5 @@
 // Word bits on information positions, and the parity bits that follow from them. Assumes nothing.
+// Plan and row are not yet a Laid here: until the parity bits are set, the row is not lawful.
 ghost use Rattle.std.specs.Prelude.{◌≡◌, ℕ, ◌%◌, ◌&&◌, length, if◌then◌else◌, ◌==◌};
 ghost use Rattle.bits.specs.Row.{row_bit};
 ghost use Rattle.plan.specs.Kinds.{is_information, is_parity};
