@@ -1,13 +1,17 @@
 -- Laying, position by position: word bits on information positions, then the parity sums, and that the outcome is lawful.
 -- Assumes nothing; kinds are frozen beyond the block where a lemma says so.
-use Rattle.std.proofs.Common.{◌≡◌, ℕ, zero, suc, ◌+◌, ◌-◌, ◌%◌, ◌<◌, ◌≤◌, Bool, true, false, cond, ◌&&◌, eqb, ltb, List, [], ◌∷◌, get_or, sym, refl, ap, ◌∙◌, inl, inr, add-one, arith}
+use Rattle.std.proofs.Common.{◌≡◌, ℕ, zero, suc, ◌+◌, ◌-◌, ◌%◌, ◌<◌, ◌≤◌, Bool, true, false, cond, ◌&&◌, ◌||◌, eqb, ltb, List, [], ◌∷◌, ◌++◌, length, get_or, sym, refl, ap, ◌∙◌, inl, inr, arith, subst, length-append}
+use Rattle.std.proofs.Math.Seq.{get_or-append_seam}
+use Rattle.std.proofs.lemmas.List.{get_or_append_left, get_or_default, append-nil}
+use Rattle.std.proofs.lemmas.List.Elements.{filter-append}
 use Rattle.std.proofs.lemmas.List.Sums.{fold-append}
+use Rattle.std.proofs.lemmas.Slice.Zip.{length-zip, get_or-zip}
 use Rattle.std.specs.Bool.{xor}
-use Rattle.std.specs.List.{fold, range_with_len}
-use Rattle.std.proofs.lemmas.Bool.{cases_Bool, cases_eq, cases_lt, both_ways, lt-ltb, le-ltb}
+use Rattle.std.specs.List.{filter, fold, range_with_len, zip}
+use Rattle.std.proofs.lemmas.Bool.{cases_Bool, cases_eq, cases_lt, both_ways}
 use Rattle.std.proofs.lemmas.Bool.Decides.{nat_tests}
 use Rattle.base.specs.Counts.{count_below, xor_below}
-use Rattle.base.proofs.Counts.{count-suc, count-zero, count_most}
+use Rattle.base.proofs.Counts.{count-suc, count-zero}
 use Rattle.base.proofs.Transform.{xor-below-same, xor-below-none}
 use Rattle.bits.specs.Row.{set_bit}
 use Rattle.plan.specs.Kinds.{is_information, is_parity}
@@ -38,69 +42,130 @@ count-passes p i n l here =
 
 -- word bits on information positions
 
--- the positions below i carry their word bits, of which `next` are placed
-pub record Placed (kinds : ℕ → Kind) (word : List Bool) (i next : ℕ) (u : ℕ → Bool) : Type 0 where
-  pub count : next ≡ count_below (λ j. is_information (kinds j)) i
-  pub bits : (j : ℕ) → u j ≡ (ltb j i && (is_information (kinds j) && word_bit_at kinds word j))
+-- number i is the one with p of which n come before
+pub record Nth (p : ℕ → Bool) (m n i : ℕ) : Type 0 where
+  pub below : i < m
+  pub has : p i ≡ true
+  pub count : count_below p i ≡ n
+
+filtered-more : (p : ℕ → Bool) (m : ℕ) (b : Bool) → p m ≡ b
+    → filter p (range_with_len 0 (suc m)) ≡ filter p (range_with_len 0 m) ++ cond b (m ∷ []) []
+filtered-more p m b here =
+    ap (filter p) (range_more 0 m m (omega arith)) ∙ filter-append p (range_with_len 0 m) (m ∷ [])
+    ∙ ap (λ (c : Bool). filter p (range_with_len 0 m) ++ cond c (m ∷ []) []) here
+
+filtered-length : (p : ℕ → Bool) (m : ℕ) → length (filter p (range_with_len 0 m)) ≡ count_below p m
+filtered-length p zero = sym (count-zero p)
+filtered-length p (suc m) =
+    let xs = filter p (range_with_len 0 m) in
+    let one : (b : Bool) → length (xs ++ cond b (m ∷ []) []) ≡ length xs + cond b 1 0 =
+    λ b. length-append xs (cond b (m ∷ []) []) ∙ ap (λ (k : ℕ). length xs + k) (elim b as (λ c. length (cond c (m ∷ []) []) ≡ cond c 1 0) [ true ↦ refl | false ↦ refl ]) in
+    ap length (filtered-more p m (p m) refl) ∙ one (p m) ∙ ap (λ (k : ℕ). k + cond (p m) 1 0) (filtered-length p m) ∙ sym (count-suc p m)
+
+-- the numbers with p, in their order
+nth-filtered : (p : ℕ → Bool) (m n d : ℕ) → n < length (filter p (range_with_len 0 m)) → Nth p m n (get_or (filter p (range_with_len 0 m)) n d)
+nth-filtered p zero n d l = absurd (omega arith)
+nth-filtered p (suc m) n d inside =
+    let xs = filter p (range_with_len 0 m) in
+    let front : n < length xs → Nth p (suc m) n (get_or xs n d) =
+    λ l. let nth = nth-filtered p m n d l in record { below = (let h = nth.below in omega arith); has = nth.has; count = nth.count } in
+    let P : List ℕ → Type 0 = λ (ys : List ℕ). n < length ys → Nth p (suc m) n (get_or ys n d) in
+    let whole : P (filter p (range_with_len 0 (suc m))) =
+    elim (cases_Bool (p m)) [
+      | inl here ↦ subst P (sym (filtered-more p m true here)) (λ l.
+          elim (cases_lt n (length xs)) [
+            | inl few ↦ subst (Nth p (suc m) n) (sym (get_or_append_left xs (m ∷ []) d n few)) (front few)
+            | inr g ↦
+                let size = length-append xs (m ∷ []) in
+                let last : n ≡ length xs = omega arith in
+                subst (Nth p (suc m) n) (sym (ap (λ (k : ℕ). get_or (xs ++ (m ∷ [])) k d) last ∙ get_or-append_seam xs m [] d))
+                (record { below = omega arith; has = here; count = sym (last ∙ filtered-length p m) })
+          ])
+      | inr here ↦ subst P (sym (filtered-more p m false here ∙ append-nil xs)) front
+    ] in
+    whole inside
+
+-- number j is among the first n that have p
+abbrev pub among : (p : ℕ → Bool) (n j : ℕ) → Bool
+among p n j = ltb (count_below p j) n && p j
+
+other-place : (p : ℕ → Bool) (i j n : ℕ) → count_below p i ≡ n → p i ≡ true → p j ≡ true → (j ≡ i → ⊥) → count_below p j ≡ n → ⊥
+other-place p i j n at here there ne same =
+    elim (cases_lt i j) [
+      | inl l ↦ (let less = count-passes p i j l here in omega arith)
+      | inr g ↦ elim (cases_eq j i) [
+        | inl e ↦ ne e
+        | inr m ↦ (let less = count-passes p j i (omega arith) there in omega arith)
+      ]
+    ]
+
+among-more : (p : ℕ → Bool) (m n i : ℕ) → Nth p m n i → (j : ℕ) → among p (n + 1) j ≡ (eqb j i || among p n j)
+among-more p m n i nth j =
+    let has = nth.has in
+    let count = nth.count in
+    elim (cases_eq j i) [
+      | inl e ↦
+          let same : count_below p j ≡ n = ap (count_below p) e ∙ count in
+          let here : p j ≡ true = ap p e ∙ has in
+          grind (arith, nat_tests)
+      | inr ne ↦ elim (cases_Bool (p j)) [
+        | inl here ↦ (let other = other-place p i j n count has here ne in grind (arith, nat_tests))
+        | inr out ↦ grind (arith, nat_tests)
+      ]
+    ]
+
+among-all : (p : ℕ → Bool) (m n : ℕ) → n ≡ count_below p m → ((j : ℕ) → m ≤ j → p j ≡ false) → (j : ℕ) → among p n j ≡ p j
+among-all p m n all beyond j =
+    elim (cases_Bool (p j)) [
+      | inl here ↦ elim (cases_lt j m) [
+        | inl l ↦ (let passes = count-passes p j m l here in grind (arith, nat_tests))
+        | inr g ↦ absurd (both_ways (p j) (beyond j g) here)
+      ]
+      | inr out ↦ grind (arith, nat_tests)
+    ]
 
 module _ (kinds : ℕ → Kind) (word : List Bool) where
   abbrev info : ℕ → Bool
   info j = is_information (kinds j)
 
-  pub placed-none : (u : ℕ → Bool) → ((j : ℕ) → u j ≡ false) → Placed kinds word 0 0 u
-  placed-none u zeros = record { count = sym (count-zero info); bits = λ j. zeros j ∙ grind (arith, nat_tests) }
+  -- the first n information positions carry their word bits
+  abbrev pub Placed : ℕ → (ℕ → Bool) → Type 0
+  Placed n u = (j : ℕ) → u j ≡ (among info n j && word_bit_at kinds word j)
 
-  pub placed-room : (i next n : ℕ) (u : ℕ → Bool) → Placed kinds word i next u → i < n → info i ≡ true → next < count_below info n
-  placed-room i next n u placed l here =
-      let passes = count-passes info i n l here in
-      let at = placed.count in
-      omega arith
+  pub placed-none : (u : ℕ → Bool) → ((j : ℕ) → u j ≡ false) → Placed 0 u
+  placed-none u zeros j = zeros j ∙ grind (arith, nat_tests)
 
-  pub placed-few : (i next : ℕ) (u : ℕ → Bool) → Placed kinds word i next u → next ≤ i
-  placed-few i next u placed =
-      let most = count_most info i in
-      let at = placed.count in
-      omega arith
-
-  more : (i next : ℕ) (u : ℕ → Bool) → Placed kinds word i next u → (c : ℕ) → cond (info i) 1 0 ≡ c → next + c ≡ count_below info (i + 1)
-  more i next u placed c e =
-      let at = placed.count in
-      let step = count-suc info i in
-      let plus : count_below info (i + 1) ≡ count_below info (suc i) = ap (count_below info) (add-one i) in
-      omega arith
-
-  pub placed-information : (i next : ℕ) (u v : ℕ → Bool) → Placed kinds word i next u → i < 1024 → info i ≡ true
-      → ((j : ℕ) → v j ≡ set_bit u i (get_or word next false) j) → Placed kinds word (i + 1) (next + 1) v
-  placed-information i next u v placed l here set =
-      let bit : get_or word next false ≡ word_bit_at kinds word i = ap (λ (k : ℕ). get_or word k false) placed.count in
-      record {
-        count = more i next u placed 1 (ap (λ (b : Bool). cond b 1 0) here);
-        bits = λ j. elim (cases_eq j i) [
-          | inl e ↦ let was = placed.bits j in let now-is = set j in grind (arith, nat_tests)
-          | inr ne ↦ let was = placed.bits j in let now-is = set j in grind (arith, nat_tests)
-        ];
-      }
-
-  pub placed-other : (i next : ℕ) (u : ℕ → Bool) → Placed kinds word i next u → info i ≡ false → Placed kinds word (i + 1) next u
-  placed-other i next u placed here =
-      let same : next + 0 ≡ next = omega arith in
-      record {
-        count = sym same ∙ more i next u placed 0 (ap (λ (b : Bool). cond b 1 0) here);
-        bits = λ j. elim (cases_eq j i) [
-          | inl e ↦ let was = placed.bits j in grind (arith, nat_tests)
-          | inr ne ↦ let was = placed.bits j in grind (arith, nat_tests)
-        ];
-      }
-
-  pub placed-all : (n next : ℕ) (u : ℕ → Bool) → ((j : ℕ) → n ≤ j → kinds j ≡ Frozen) → Placed kinds word n next u
-      → (j : ℕ) → u j ≡ (info j && word_bit_at kinds word j)
-  placed-all n next u beyond placed j =
-      elim (cases_lt j n) [
-        | inl l ↦ placed.bits j ∙ ap (λ (b : Bool). b && (info j && word_bit_at kinds word j)) (lt-ltb j n l)
-        | inr g ↦
-            let out : info j ≡ false = ap is_information (beyond j g) in
-            placed.bits j ∙ ap (λ (b : Bool). b && (info j && word_bit_at kinds word j)) (le-ltb j n g) ∙ sym (ap (λ (b : Bool). b && word_bit_at kinds word j) out)
+  -- one more position gets its bit
+  pub placed-more : (m n i : ℕ) (bit : Bool) (u v : ℕ → Bool) → m ≤ 1024 → n < length (zip (filter info (range_with_len 0 m)) word)
+      → ◌≡◌ {A = ℕ × Bool} (i, bit) (get_or (zip (filter info (range_with_len 0 m)) word) n (i, bit)) → Placed n u
+      → ((j : ℕ) → v j ≡ set_bit u i bit j) → Placed (n + 1) v
+  placed-more m n i bit u v most inside is placed set j =
+      let ks = filter info (range_with_len 0 m) in
+      let size = length-zip ks word in
+      let l : n < length ks = omega arith in
+      let k : n < length word = omega arith in
+      let pair : ◌≡◌ {A = ℕ × Bool} (i, bit) (get_or ks n i, get_or word n bit) = is ∙ get_or-zip ks word n (i, bit) l k in
+      let at : i ≡ get_or ks n i = ap (λ (q : ℕ × Bool). q.0) pair in
+      let nth : Nth info m n i = subst (Nth info m n) (sym at) (nth-filtered info m n i l) in
+      let below = nth.below in
+      let more = among-more info m n i nth j in
+      let was = placed j in
+      let now-is = set j in
+      elim (cases_eq j i) [
+        | inl e ↦
+            let mine : word_bit_at kinds word j ≡ bit =
+            ap (λ (c : ℕ). get_or word c false) (ap (count_below info) e ∙ nth.count) ∙ get_or_default word n false bit k
+            ∙ sym (ap (λ (q : ℕ × Bool). q.1) pair) in
+            grind (arith, nat_tests)
+        | inr ne ↦ grind (arith, nat_tests)
       ]
+
+  pub placed-all : (m n : ℕ) (u : ℕ → Bool) → ((j : ℕ) → m ≤ j → kinds j ≡ Frozen) → n ≡ length (zip (filter info (range_with_len 0 m)) word)
+      → length word ≡ count_below info m → Placed n u → (j : ℕ) → u j ≡ (info j && word_bit_at kinds word j)
+  placed-all m n u beyond whole long placed j =
+      let size = length-zip (filter info (range_with_len 0 m)) word in
+      let some = filtered-length info m in
+      placed j ∙ ap (λ (b : Bool). b && word_bit_at kinds word j) (among-all info m n (omega arith) (λ k g. ap is_information (beyond k g)) j)
 
 -- parity sums
 
@@ -127,46 +192,42 @@ information-carries Frozen h = refl
 information-carries Information h = refl
 information-carries Parity h = absurd (both_ways false refl h)
 
--- the parity positions below i hold their sums
-abbrev pub Summed : (kinds : ℕ → Kind) (start : ℕ → Bool) (i : ℕ) (u : ℕ → Bool) → Type 0
-Summed kinds start i u = (j : ℕ) → u j ≡ cond (ltb j i && is_parity (kinds j)) (parity_sum kinds start j) (start j)
+-- the first n parity positions hold their sums
+abbrev pub Summed : (kinds : ℕ → Kind) (start : ℕ → Bool) (n : ℕ) (u : ℕ → Bool) → Type 0
+Summed kinds start n u = (j : ℕ) → u j ≡ cond (among (λ i. is_parity (kinds i)) n j) (parity_sum kinds start j) (start j)
 
 module _ (kinds : ℕ → Kind) (start : ℕ → Bool) where
-  same_sum : (i : ℕ) (u : ℕ → Bool) → Summed kinds start i u → parity_sum kinds u i ≡ parity_sum kinds start i
-  same_sum i u summed =
+  abbrev parities : ℕ → Bool
+  parities j = is_parity (kinds j)
+
+  same_sum : (n i : ℕ) (u : ℕ → Bool) → Summed kinds start n u → parity_sum kinds u i ≡ parity_sum kinds start i
+  same_sum n i u summed =
       parity-same kinds u start i
       (λ j s. summed j ∙ let no-sum = information-carries (kinds j) s in grind (arith, nat_tests))
 
-  pub summed-parity : (i : ℕ) (sum : Bool) (u v : ℕ → Bool) → Summed kinds start i u → i < 1024 → is_parity (kinds i) ≡ true
-      → sum ≡ parity_sum kinds u i → ((j : ℕ) → v j ≡ set_bit u i sum j) → Summed kinds start (i + 1) v
-  summed-parity i sum u v summed l here is set j =
-      let whole : sum ≡ parity_sum kinds start i = is ∙ same_sum i u summed in
+  pub summed-none : (u : ℕ → Bool) → ((j : ℕ) → u j ≡ start j) → Summed kinds start 0 u
+  summed-none u same j = same j ∙ grind (arith, nat_tests)
+
+  -- one more position gets its sum
+  pub summed-more : (m n i : ℕ) (sum : Bool) (u v : ℕ → Bool) → m ≤ 1024 → n < length (filter parities (range_with_len 0 m))
+      → i ≡ get_or (filter parities (range_with_len 0 m)) n i → Summed kinds start n u → sum ≡ parity_sum kinds u i
+      → ((j : ℕ) → v j ≡ set_bit u i sum j) → Summed kinds start (n + 1) v
+  summed-more m n i sum u v most inside at summed is set j =
+      let nth : Nth parities m n i = subst (Nth parities m n) (sym at) (nth-filtered parities m n i inside) in
+      let below = nth.below in
+      let more = among-more parities m n i nth j in
       let was = summed j in
       let now-is = set j in
       elim (cases_eq j i) [
-        | inl e ↦
-            let at : is_parity (kinds j) ≡ true = ap (λ (m : ℕ). is_parity (kinds m)) e ∙ here in
-            let goes : sum ≡ parity_sum kinds start j = whole ∙ sym (ap (parity_sum kinds start) e) in
-            grind (arith, nat_tests)
+        | inl e ↦ (let goes : sum ≡ parity_sum kinds start j = is ∙ same_sum n i u summed ∙ sym (ap (parity_sum kinds start) e) in grind (arith, nat_tests))
         | inr ne ↦ grind (arith, nat_tests)
       ]
 
-  pub summed-other : (i : ℕ) (u : ℕ → Bool) → Summed kinds start i u → is_parity (kinds i) ≡ false → Summed kinds start (i + 1) u
-  summed-other i u summed here j =
-      let was = summed j in
-      elim (cases_eq j i) [
-        | inl e ↦ (let at : is_parity (kinds j) ≡ false = ap (λ (m : ℕ). is_parity (kinds m)) e ∙ here in grind (arith, nat_tests))
-        | inr ne ↦ grind (arith, nat_tests)
-      ]
-
-  pub summed-all : (n : ℕ) (u : ℕ → Bool) → ((j : ℕ) → n ≤ j → kinds j ≡ Frozen) → Summed kinds start n u
-      → (j : ℕ) → u j ≡ cond (is_parity (kinds j)) (parity_sum kinds start j) (start j)
-  summed-all n u beyond summed j =
-      let was = summed j in
-      elim (cases_lt j n) [
-        | inl l ↦ grind (arith, nat_tests)
-        | inr g ↦ (let out : is_parity (kinds j) ≡ false = ap is_parity (beyond j g) in grind (arith, nat_tests))
-      ]
+  pub summed-all : (m n : ℕ) (u : ℕ → Bool) → ((j : ℕ) → m ≤ j → kinds j ≡ Frozen) → n ≡ length (filter parities (range_with_len 0 m))
+      → Summed kinds start n u → (j : ℕ) → u j ≡ cond (is_parity (kinds j)) (parity_sum kinds start j) (start j)
+  summed-all m n u beyond whole summed j =
+      let all : n ≡ count_below parities m = whole ∙ filtered-length parities m in
+      summed j ∙ ap (λ (b : Bool). cond b (parity_sum kinds start j) (start j)) (among-all parities m n all (λ k g. ap is_parity (beyond k g)) j)
 
 -- the laid word
 

@@ -15,6 +15,7 @@ pub fn read_bits(bytes: &[u8], bits: &mut [bool])
     requires whole { length bits.old ≡ length bytes.now }
     ensures { bits.new ≡ bits_of bytes.now }
 {
+    // by index: of what is written through a zip of iter_mut, a proof knows the length alone
     for (i, byte) in bytes.iter().enumerate() {
         bits[i] = *byte == 1;
     }

@@ -1,4 +1,5 @@
 // Word bits on information positions, and the parity bits that follow from them. Assumes nothing.
+// Plan and row are not yet a Laid here: until the parity bits are set, the row is not lawful.
 ghost use Rattle.std.specs.Prelude.{◌≡◌, ℕ, ◌%◌, ◌&&◌, length, if◌then◌else◌, ◌==◌};
 ghost use Rattle.bits.specs.Row.{row_bit};
 ghost use Rattle.plan.specs.Kinds.{is_information, is_parity};
@@ -27,12 +28,9 @@ pub fn place_word(plan: &Plan, word: &[bool]) -> Row
     ensures { (i : ℕ) → row_bit result i ≡ (is_information (kind_at plan.now i) && word_bit_at (kind_at plan.now) word.now i) }
 {
     let mut row = Row::zero();
-    let mut next = 0;
-    for i in 0..plan.length() {
-        if is_information(plan, i) {
-            row.set(i, word[next]);
-            next += 1;
-        }
+    let positions = (0..plan.length()).filter(|i| is_information(plan, *i));
+    for (i, bit) in positions.zip(word) {
+        row.set(i, *bit);
     }
     row
 }
@@ -55,10 +53,8 @@ pub fn parity_sum(plan: &Plan, row: &Row, i: usize) -> bool
 pub fn add_parity(plan: &Plan, row: &mut Row)
     ensures { (i : ℕ) → row_bit row.new i ≡ (if is_parity (kind_at plan.now i) then parity_sum (kind_at plan.now) (row_bit row.old) i else row_bit row.old i) }
 {
-    for i in 0..plan.length() {
-        if is_parity(plan, i) {
-            let sum = parity_sum(plan, row, i);
-            row.set(i, sum);
-        }
+    for i in (0..plan.length()).filter(|i| is_parity(plan, *i)) {
+        let sum = parity_sum(plan, row, i);
+        row.set(i, sum);
     }
 }

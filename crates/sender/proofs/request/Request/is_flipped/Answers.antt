@@ -1,9 +1,9 @@
-use Rattle.std.proofs.Common.{◌≡◌, ℕ, ◌<◌, Bool, true, false, eqb, List, length, get_or, MatchBool, sym, rules, arith, tests}
+use Rattle.std.proofs.Common.{◌≡◌, ℕ, ◌<◌, Bool, true, false, eqb, List, length, get_or, MatchBool, sym, rules, arith, vec_items, tests}
 use Rattle.std.proofs.lemmas.Iterator.{cases_from_any, YieldsList-from_slice}
 use Rattle.std.specs.List.{AllWithin, HoldsAt}
 use Rattle.base.specs.Counts.{any_below}
 use Rattle.base.proofs.Counts.{any-from, any_none}
-use Rattle.sender.proofs.arrival.is_flipped.Goals as goal
+use Rattle.sender.proofs.request.Request.is_flipped.Goals as goal
 
 any_is : (p : ℕ → Bool) (xs : List ℕ) (r : Bool)
     → MatchBool r ((k : ℕ) × (k < length xs) × HoldsAt (λ x. p x ≡ true) xs k) (AllWithin (λ x. p x ≡ false) xs 0 (length xs))
@@ -14,6 +14,6 @@ any_is p xs false h = sym (any_none (λ j. p (get_or xs j 0)) (length xs) (λ k 
 pub returns : goal.returns
 returns c =
     let p : ℕ → Bool = λ flip. eqb flip c.args.k in
-    any_is p c.args.flips.now c.any.result
-    (cases_from_any _ _ _ (λ flip. p flip ≡ true) (λ flip. p flip ≡ false) c.any.ensures.ran (YieldsList-from_slice c.args.flips.now cc)
+    any_is p (vec_items c.args.self.now.flips) c.any.result
+    (cases_from_any _ _ _ (λ flip. p flip ≡ true) (λ flip. p flip ≡ false) c.any.ensures.ran (YieldsList-from_slice (vec_items c.args.self.now.flips) cc)
     (λ x q k. search (rules, tests)) (λ x q k. search (rules, tests)))
