@@ -1,5 +1,6 @@
 -- A run of calls from a decoder on: what is recorded, what the buffers hold after it and what is promised. Assumes nothing.
 use Rattle.std.specs.Prelude.{ℕ, List, [], ◌∷◌, map, take, ℤ, Ok, Err, Result}
+use Rattle.base.specs.declared.refusal.Refusal.{Refusal}
 use Rattle.outer.specs.declared.check.Judge as judge
 use Rattle.search.specs.Calls as search
 use Rattle.search.specs.Promise.{Promise}
@@ -25,10 +26,10 @@ abbrev pub run_of : {S C : Type 0} → store.Ghosts S → judge.Ghosts C → S �
 run_of members judge store check values scratch output calls = record { start = unloaded (meanings members judge) store; calls = calls_of judge check values scratch output calls }
 
 -- the answers of a record, as the program tells them
-abbrev pub answers_in : List Entry → List Answer
+abbrev pub answers_in : List Entry → List (Result Answer Refusal)
 answers_in entries = map (λ e. heard e.answer) entries
 
-abbrev pub answers_of : Run → List Answer
+abbrev pub answers_of : Run → List (Result Answer Refusal)
 answers_of run = answers_in (recorded ruled run.start run.calls)
 
 -- the decoder after the last call

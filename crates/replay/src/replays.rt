@@ -7,6 +7,7 @@ ghost use Rattle.decoder.specs.States.{meanings, model_of, unloaded};
 
 use crate::call::{Answer, Call};
 use crate::plays::play;
+use base::Refusal;
 use decoder::Decoder;
 use outer::Judge;
 use std::alloc::{AllocError, Global};
@@ -22,7 +23,10 @@ pub fn replay<S: Store, C: Judge>(
     values: &[i32],
     scratch: &mut [i32],
     output: &mut [u8],
-) -> (Decoder<S, C>, Result<Vec<Answer>, AllocError>)
+) -> (
+    Decoder<S, C>,
+    Result<Vec<Result<Answer, Refusal>>, AllocError>,
+)
     ensures answers { IfOk result.1 (λ answers. answers.items ≡ answers_of (run_of S.Store C.Judge store check values.now (length scratch.old) (length output.old) calls.now)) }
     ensures promise { KeepsPromise (run_of S.Store C.Judge store check values.now (length scratch.old) (length output.old) calls.now) }
     ensures exact { MetricsExact values.now calls.now (run_of S.Store C.Judge store check values.now (length scratch.old) (length output.old) calls.now) }
