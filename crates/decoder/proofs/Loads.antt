@@ -4,7 +4,7 @@ use mathlib.Core.Path.{fun_ext}
 use Rattle.std.proofs.lemmas.Bool.{and_parts, cond-true, cond-false, le-leb, leb-true}
 use Rattle.base.specs.declared.refusal.Refusal.TheVariants as refusal
 use Rattle.cost.specs.Limits.{is_loadable, range_front}
-use Rattle.outer.specs.declared.check.Judge as judge
+use Rattle.outer.specs.declared.check.Judge as Judge
 use Rattle.plan.specs.declared.plan.Plan.{Plan}
 use Rattle.plan.specs.Plans.{log_length, block_length}
 use Rattle.search.specs.Search.{between, value_refusal, load_refusal}
@@ -13,7 +13,7 @@ use Rattle.decoder.specs.declared.limits.Limits.{Limits}
 use Rattle.decoder.specs.Limits.{limits_allowed}
 use Rattle.decoder.specs.Answers.{fits_check, first_bad_value, request_of}
 
-module _ {C : Type 0} (judge : judge.Ghosts C) (check : C) (plan : Plan) (llrs : List ℤ) (limits : Limits) where
+module _ {C : Type 0} (judge : Judge.Ghosts C) (check : C) (plan : Plan) (llrs : List ℤ) (limits : Limits) where
   abbrev apart : Bool
   apart = (fits_check (judge.bits check) (judge.longest check) plan && eqb (length llrs) (block_length plan)) && limits_allowed limits
 

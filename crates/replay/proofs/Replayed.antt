@@ -2,7 +2,7 @@
 use Rattle.std.proofs.Common.{◌≡◌, ℕ, zero, suc, ◌+◌, ◌<◌, ◌≤◌, List, [], ◌∷◌, ◌++◌, map, length, get_or, take, drop, ℤ, pos, Result, sym, refl, ap, ◌∙◌, subst, ap₂}
 use Rattle.std.proofs.lemmas.List.{append_assoc, append-nil, drop-map, drop_more, drop_all, length-map}
 use Rattle.base.specs.declared.refusal.Refusal.{Refusal}
-use Rattle.outer.specs.declared.check.Judge as judge
+use Rattle.outer.specs.declared.check.Judge as Judge
 use Rattle.search.specs.Calls as search
 use Rattle.search.specs.Records.{LawfulCall, LawfulCalls, recorded, after}
 use Rattle.search.specs.Search.{called}
@@ -73,7 +73,7 @@ pub no_call : (f : Call → search.Call) (calls : List Call) (i : ℕ) → lengt
 no_call f calls i h = drop_all i (map f calls) (subst (λ n. n ≤ i) (sym (length-map calls f)) h)
 
 pub same-call :
-    {C : Type 0} (judge : judge.Ghosts C) (check check' : C) (values : List ℤ) (scratch scratch' output output' : ℕ) (c : Call)
+    {C : Type 0} (judge : Judge.Ghosts C) (check check' : C) (values : List ℤ) (scratch scratch' output output' : ℕ) (c : Call)
     → check ≡ check' → scratch ≡ scratch' → output ≡ output'
     → call_of judge check values scratch output c ≡ call_of judge check' values scratch' output' c
 same-call judge check check' values scratch scratch' output output' c p q r =
@@ -81,7 +81,7 @@ same-call judge check check' values scratch scratch' output output' c p q r =
 
 -- The promise
 
-module _ {C : Type 0} (judge : judge.Ghosts C) (check : C) (values : List ℤ) (scratch output : ℕ) (hopeful : Hopeful (meaning_of judge check)) where
+module _ {C : Type 0} (judge : Judge.Ghosts C) (check : C) (values : List ℤ) (scratch output : ℕ) (hopeful : Hopeful (meaning_of judge check)) where
   lawful-call : (c : Call) → LawfulCall (call_of judge check values scratch output c)
   lawful-call call.Report = tt
   lawful-call call.Strike = tt

@@ -3,7 +3,7 @@
 use Rattle.std.specs.Prelude.{ℕ, ◌-◌, ◌*◌, min, List, ◌++◌, map, length, take, drop, replicate, ℤ, pos, Ok, Err, Result}
 use Rattle.base.specs.declared.refusal.Refusal.{Refusal}
 use Rattle.code.specs.Sending.{byte_of}
-use Rattle.outer.specs.declared.check.Judge as judge
+use Rattle.outer.specs.declared.check.Judge as Judge
 use Rattle.search.specs.Calls as search
 use Rattle.search.specs.Stores.{Contents}
 use Rattle.decoder.specs.Answers.{request_of}
@@ -17,7 +17,7 @@ use Rattle.replay.specs.declared.call.Answer.TheVariants as answer
 use Rattle.replay.specs.declared.payload.Payload.{Payload}
 
 -- a call of a decoder over a check, where there are these soft values, and so many words of scratch and bytes of output
-abbrev pub call_of : {C : Type 0} → judge.Ghosts C → C → (values : List ℤ) (scratch output : ℕ) → Call → search.Call
+abbrev pub call_of : {C : Type 0} → Judge.Ghosts C → C → (values : List ℤ) (scratch output : ℕ) → Call → search.Call
 call_of judge check values scratch output call.Report = search.Report
 call_of judge check values scratch output call.Strike = search.Strike
 call_of judge check values scratch output (call.Load plan at count limits) = search.Load (request_of judge check plan (take count (drop at values)) limits)

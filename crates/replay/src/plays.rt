@@ -2,7 +2,7 @@
 ghost use Rattle.std.specs.Prelude.{◌≡◌, length, take, drop};
 ghost use Rattle.decoder.specs.Answers.{KeptIfRefused};
 ghost use Rattle.replay.specs.Plays.{call_of, heard, output_left, scratch_left};
-ghost use Rattle.decoder.specs.States.{meanings, model_of};
+ghost use Rattle.decoder.specs.States.{model_of};
 ghost use Rattle.search.specs.Calls as search;
 ghost use Rattle.search.specs.Search.{called};
 ghost use Rattle.search.specs.Stores.{ruled};
@@ -28,10 +28,10 @@ fn play_advance<S: Store, C: Judge>(
     budget: u32,
     scratch: &mut [i32],
 ) -> Result<Answer, Refusal>
-    ensures model { model_of (meanings S.Store C.Judge) decoder.new.state ≡ (called ruled (model_of (meanings S.Store C.Judge) decoder.old.state) (search.Advance budget (length scratch.old))).0 }
-    ensures answer { result ≡ heard (called ruled (model_of (meanings S.Store C.Judge) decoder.old.state) (search.Advance budget (length scratch.old))).1 }
+    ensures model { model_of S.Store C.Judge decoder.new.state ≡ (called ruled (model_of S.Store C.Judge decoder.old.state) (search.Advance budget (length scratch.old))).0 }
+    ensures answer { result ≡ heard (called ruled (model_of S.Store C.Judge decoder.old.state) (search.Advance budget (length scratch.old))).1 }
     ensures check { decoder.new.state.check ≡ decoder.old.state.check }
-    ensures scratch { scratch.new ≡ scratch_left (model_of (meanings S.Store C.Judge) decoder.old.state) (called ruled (model_of (meanings S.Store C.Judge) decoder.old.state) (search.Advance budget (length scratch.old))).1 scratch.old }
+    ensures scratch { scratch.new ≡ scratch_left (model_of S.Store C.Judge decoder.old.state) (called ruled (model_of S.Store C.Judge decoder.old.state) (search.Advance budget (length scratch.old))).1 scratch.old }
     ensures refused { (KeptIfRefused result decoder.old decoder.new) × (KeptIfRefused result scratch.old scratch.new) }
 {
     let (met, report) = decoder.advance(budget, scratch)?;
@@ -43,8 +43,8 @@ fn play_word<S: Store, C: Judge>(
     decoder: &Decoder<S, C>,
     output: &mut [u8],
 ) -> Result<Answer, Refusal>
-    ensures answer { result ≡ heard (called ruled (model_of (meanings S.Store C.Judge) decoder.now.state) (search.Word (length output.old))).1 }
-    ensures output { output.new ≡ output_left (model_of (meanings S.Store C.Judge) decoder.now.state) (called ruled (model_of (meanings S.Store C.Judge) decoder.now.state) (search.Word (length output.old))).1 output.old }
+    ensures answer { result ≡ heard (called ruled (model_of S.Store C.Judge decoder.now.state) (search.Word (length output.old))).1 }
+    ensures output { output.new ≡ output_left (model_of S.Store C.Judge decoder.now.state) (called ruled (model_of S.Store C.Judge decoder.now.state) (search.Word (length output.old))).1 output.old }
     ensures refused { KeptIfRefused result output.old output.new }
 {
     decoder.word(output)?;
@@ -59,11 +59,11 @@ pub fn play<S: Store, C: Judge>(
     scratch: &mut [i32],
     output: &mut [u8],
 ) -> Result<Answer, Refusal>
-    ensures model { model_of (meanings S.Store C.Judge) decoder.new.state ≡ (called ruled (model_of (meanings S.Store C.Judge) decoder.old.state) (call_of C.Judge decoder.old.state.check values.now (length scratch.old) (length output.old) call)).0 }
-    ensures answer { result ≡ heard (called ruled (model_of (meanings S.Store C.Judge) decoder.old.state) (call_of C.Judge decoder.old.state.check values.now (length scratch.old) (length output.old) call)).1 }
+    ensures model { model_of S.Store C.Judge decoder.new.state ≡ (called ruled (model_of S.Store C.Judge decoder.old.state) (call_of C.Judge decoder.old.state.check values.now (length scratch.old) (length output.old) call)).0 }
+    ensures answer { result ≡ heard (called ruled (model_of S.Store C.Judge decoder.old.state) (call_of C.Judge decoder.old.state.check values.now (length scratch.old) (length output.old) call)).1 }
     ensures check { decoder.new.state.check ≡ decoder.old.state.check }
-    ensures scratch { scratch.new ≡ scratch_left (model_of (meanings S.Store C.Judge) decoder.old.state) (called ruled (model_of (meanings S.Store C.Judge) decoder.old.state) (call_of C.Judge decoder.old.state.check values.now (length scratch.old) (length output.old) call)).1 scratch.old }
-    ensures output { output.new ≡ output_left (model_of (meanings S.Store C.Judge) decoder.old.state) (called ruled (model_of (meanings S.Store C.Judge) decoder.old.state) (call_of C.Judge decoder.old.state.check values.now (length scratch.old) (length output.old) call)).1 output.old }
+    ensures scratch { scratch.new ≡ scratch_left (model_of S.Store C.Judge decoder.old.state) (called ruled (model_of S.Store C.Judge decoder.old.state) (call_of C.Judge decoder.old.state.check values.now (length scratch.old) (length output.old) call)).1 scratch.old }
+    ensures output { output.new ≡ output_left (model_of S.Store C.Judge decoder.old.state) (called ruled (model_of S.Store C.Judge decoder.old.state) (call_of C.Judge decoder.old.state.check values.now (length scratch.old) (length output.old) call)).1 output.old }
     ensures refused { (KeptIfRefused result decoder.old decoder.new) × ((KeptIfRefused result scratch.old scratch.new) × (KeptIfRefused result output.old output.new)) }
 {
     match call {

@@ -1,12 +1,11 @@
 use Rattle.decoder.specs.Answers.{payload_in}
-use Rattle.decoder.specs.States.{meanings, model_of}
+use Rattle.decoder.specs.States.{model_of}
 use Rattle.replay.proofs.Played.{word-heard, word-written}
 use Rattle.replay.proofs.plays.play_word.Goals as goal
 
 pub returns : goal.returns
 returns g c =
-    let m = meanings g.S.Store g.C.Judge in
-    let d = model_of m c.args.decoder.now.state in
+    let d = model_of g.S.Store g.C.Judge c.args.decoder.now.state in
     let after = c.word.new.output in
     let e = c.in_ok-word.ensures in
     record {

@@ -5,11 +5,10 @@ use Rattle.decoder.specs.States.{Sound}
 use Rattle.decoder.specs.declared.phase.Phase.TheVariants as phase
 use Rattle.decoder.specs.declared.report.Met.TheVariants as met
 use Rattle.decoder.proofs.Advances.{Done, ended, starts, done-halted, done-paused, done-shown, goes-again}
-use Rattle.decoder.proofs.state.State.search.Invariants.{means}
 use Rattle.decoder.proofs.state.State.search.Goals as goal
 
 pub loop-init : goal.loop-init
-loop-init g c = (starts (means g) c.args.self.now c.args.budget, refl, refl, refl, tt)
+loop-init g c = (starts g.S.Store g.C.Judge c.args.self.now c.args.budget, refl, refl, refl, tt)
 
 pub step-requires : goal.step-requires
 step-requires g c =
@@ -21,7 +20,7 @@ pub loop-preserved : goal.loop-preserved
 loop-preserved g c =
     let (going, check, block, size, held) = c.loop.invariant in
     let left : c.args.budget - c.loop.counter ≡ suc (c.args.budget - (c.loop.counter + 1)) = let h = c.loop-test.true in omega arith in (
-      λ s p. goes-again (means g) c.args.self.now c.loop.self c.args.budget (c.args.budget - c.loop.counter) (going s p) c.step.new.self (c.args.budget - (c.loop.counter + 1)) left c.in_default.ensures c.step.ensures.model c.step.ensures.sound c.in_default-phase.not-Shown,
+      λ s p. goes-again g.S.Store g.C.Judge c.args.self.now c.loop.self c.args.budget (c.args.budget - c.loop.counter) (going s p) c.step.new.self (c.args.budget - (c.loop.counter + 1)) left c.in_default.ensures c.step.ensures.model c.step.ensures.sound c.in_default-phase.not-Shown,
       c.step.ensures.check.0 ∙ check,
       c.step.ensures.check.1 ∙ block,
       search rules,
@@ -32,8 +31,8 @@ pub returns-in-Some : goal.returns-in-Some
 returns-in-Some g c =
     let d = c.args.self.now in
     let (going, check, _, size, _) = c.loop.invariant in
-    let done : Sound (means g) d → d.phase ≡ phase.Searching → Done (means g) d (ended c.loop.self) c.args.budget c.in-Some.met =
-    λ s p. done-halted (means g) d c.loop.self c.args.budget (c.args.budget - c.loop.counter) (going s p) c.in-Some.met c.in-Some.ensures in
+    let done : Sound g.S.Store g.C.Judge d → d.phase ≡ phase.Searching → Done g.S.Store g.C.Judge d (ended c.loop.self) c.args.budget c.in-Some.met =
+    λ s p. done-halted g.S.Store g.C.Judge d c.loop.self c.args.budget (c.args.budget - c.loop.counter) (going s p) c.in-Some.met c.in-Some.ensures in
     record { model = λ s p. (done s p).model; met = λ s p. (done s p).met; sound = λ s p. (done s p).sound; loaded = λ s p. (done s p).loaded; check = check; room = search rules }
 
 pub returns-in-Shown : goal.returns-in-Shown
@@ -41,16 +40,16 @@ returns-in-Shown g c =
     let d = c.args.self.now in
     let (going, check, _, size, _) = c.loop.invariant in
     let left : c.args.budget - c.loop.counter ≡ suc (c.args.budget - (c.loop.counter + 1)) = let h = c.loop-test.true in omega arith in
-    let done : Sound (means g) d → d.phase ≡ phase.Searching → Done (means g) d c.step.new.self c.args.budget met.Shown =
-    λ s p. done-shown (means g) d c.loop.self c.args.budget (c.args.budget - c.loop.counter) (going s p) c.step.new.self (c.args.budget - (c.loop.counter + 1)) left c.in_default.ensures c.step.ensures.model c.step.ensures.sound c.in-Shown.field-0 c.in-Shown.is in
+    let done : Sound g.S.Store g.C.Judge d → d.phase ≡ phase.Searching → Done g.S.Store g.C.Judge d c.step.new.self c.args.budget met.Shown =
+    λ s p. done-shown g.S.Store g.C.Judge d c.loop.self c.args.budget (c.args.budget - c.loop.counter) (going s p) c.step.new.self (c.args.budget - (c.loop.counter + 1)) left c.in_default.ensures c.step.ensures.model c.step.ensures.sound c.in-Shown.field-0 c.in-Shown.is in
     record { model = λ s p. (done s p).model; met = λ s p. (done s p).met; sound = λ s p. (done s p).sound; loaded = λ s p. (done s p).loaded; check = c.step.ensures.check.0 ∙ check; room = search rules }
 
 pub returns-in-Some-halt : goal.returns-in-Some-halt
 returns-in-Some-halt g c =
     let d = c.args.self.now in
     let (going, check, _, size, _) = c.loop.invariant in
-    let done : Sound (means g) d → d.phase ≡ phase.Searching → Done (means g) d (ended c.loop.self) c.args.budget c.in-Some-halt.met =
-    λ s p. done-halted (means g) d c.loop.self c.args.budget (c.args.budget - c.loop.counter) (going s p) c.in-Some-halt.met c.in-Some-halt.ensures in
+    let done : Sound g.S.Store g.C.Judge d → d.phase ≡ phase.Searching → Done g.S.Store g.C.Judge d (ended c.loop.self) c.args.budget c.in-Some-halt.met =
+    λ s p. done-halted g.S.Store g.C.Judge d c.loop.self c.args.budget (c.args.budget - c.loop.counter) (going s p) c.in-Some-halt.met c.in-Some-halt.ensures in
     record { model = λ s p. (done s p).model; met = λ s p. (done s p).met; sound = λ s p. (done s p).sound; loaded = λ s p. (done s p).loaded; check = check; room = search rules }
 
 pub returns : goal.returns
@@ -58,6 +57,6 @@ returns g c =
     let d = c.args.self.now in
     let (going, check, _, size, _) = c.loop.invariant in
     let left : c.args.budget - c.loop.counter ≡ 0 = let h = c.loop-test.false in omega arith in
-    let done : Sound (means g) d → d.phase ≡ phase.Searching → Done (means g) d c.loop.self c.args.budget met.Paused =
-    λ s p. done-paused (means g) d c.loop.self c.args.budget (c.args.budget - c.loop.counter) (going s p) left c.in-None.ensures in
+    let done : Sound g.S.Store g.C.Judge d → d.phase ≡ phase.Searching → Done g.S.Store g.C.Judge d c.loop.self c.args.budget met.Paused =
+    λ s p. done-paused g.S.Store g.C.Judge d c.loop.self c.args.budget (c.args.budget - c.loop.counter) (going s p) left c.in-None.ensures in
     record { model = λ s p. (done s p).model; met = λ s p. (done s p).met; sound = λ s p. (done s p).sound; loaded = λ s p. (done s p).loaded; check = check; room = search rules }
