@@ -13,6 +13,7 @@ use Rattle.model.specs.Reading.{candidate_in}
 use Rattle.decoder.specs.Answers.{met_of, halt_of, shown_path}
 use Rattle.decoder.specs.Phases.{is_loaded}
 use Rattle.decoder.specs.States.{Sound, phase_in, phase_of, loaded_of}
+use Rattle.decoder.specs.Steps.{MayStep}
 use Rattle.decoder.specs.declared.report.Met.{Met}
 use Rattle.decoder.specs.declared.report.Met.TheVariants as met
 use Rattle.decoder.specs.declared.state.State.{State}
@@ -155,17 +156,15 @@ module _ {S C : Type 0} (members : Store.Ghosts S) (judge : Judge.Ghosts C) (bef
         loaded = ap is_loaded going.phase;
       }
 
+  pub may-step : None ≡ search.halt stores.ruled (loaded_of members judge now) → MayStep members judge now
+  may-step looks =
+      let (f, s) = has_left (loaded_of members judge now) (sym looks) in
+      record { sound = going.sound; searching = going.phase; steps = s; failures = f }
+
   module _
       (after : State S C) (n : ℕ) (some : left ≡ suc n) (looks : None ≡ search.halt stores.ruled (loaded_of members judge now))
-      (step : Sound members judge now → now.phase ≡ phase.Searching → now.counts.steps < now.counts.most_steps → now.counts.failures < now.counts.most_failures → loaded_of members judge after ≡ search.step stores.ruled (loaded_of members judge now))
-      (sound : Sound members judge now → now.phase ≡ phase.Searching → now.counts.steps < now.counts.most_steps → now.counts.failures < now.counts.most_failures → Sound members judge after)
+      (stepped : loaded_of members judge after ≡ search.step stores.ruled (loaded_of members judge now)) (stays-sound : Sound members judge after)
     where
-      stepped : loaded_of members judge after ≡ search.step stores.ruled (loaded_of members judge now)
-      stepped = let (f, s) = has_left (loaded_of members judge now) (sym looks) in step going.sound going.phase s f
-
-      stays-sound : Sound members judge after
-      stays-sound = let (f, s) = has_left (loaded_of members judge now) (sym looks) in sound going.sound going.phase s f
-
       onward : search.advanced stores.ruled budget (loaded_of members judge before) ≡ search.advanced stores.ruled (suc n) (loaded_of members judge now)
       onward = going.rest ∙ ap (λ k. search.advanced stores.ruled k (loaded_of members judge now)) some
 

@@ -25,7 +25,7 @@ use Rattle.model.proofs.Children.{first-length, cost-first, cost-child}
 use Rattle.decoder.specs.Blocks.{plan_in, llr_in}
 use Rattle.decoder.specs.States.{contents_of, loaded_of, RowsApart, ShownWhole, Sound}
 use Rattle.decoder.specs.Phases.{is_loaded}
-use Rattle.decoder.specs.Steps.{path_of, Ready, Costs, Framed, Searched}
+use Rattle.decoder.specs.Steps.{path_of, MayStep, Ready, Costs, Framed, Searched}
 use Rattle.decoder.specs.declared.state.State.{State}
 use Rattle.decoder.specs.declared.phase.Phase.TheVariants as phase
 use Rattle.decoder.proofs.Apart.{apart-taken}
@@ -208,59 +208,55 @@ module _ {S C : Type 0} (members : Store.Ghosts S) (judge : Judge.Ghosts C) (d d
 -- What a step promises, where e is what it makes of d
 
 pub record Stepped {S C : Type 0} (members : Store.Ghosts S) (judge : Judge.Ghosts C) (d e : State S C) : Type 0 where
-  pub model : Sound members judge d → d.phase ≡ phase.Searching → d.counts.steps < d.counts.most_steps → d.counts.failures < d.counts.most_failures → loaded_of members judge e ≡ step ruled (loaded_of members judge d)
-  pub sound : Sound members judge d → d.phase ≡ phase.Searching → d.counts.steps < d.counts.most_steps → d.counts.failures < d.counts.most_failures → Sound members judge e
-  pub loaded : d.phase ≡ phase.Searching → is_loaded e.phase ≡ true
+  pub model : loaded_of members judge e ≡ step ruled (loaded_of members judge d)
+  pub sound : Sound members judge e
+  pub loaded : is_loaded e.phase ≡ true
   pub check : (e.check ≡ d.check) × (e.block ≡ d.block)
 
 searching-whole : {S C : Type 0} (members : Store.Ghosts S) (judge : Judge.Ghosts C) (e : State S C) → e.phase ≡ phase.Searching → ShownWhole judge e e.phase
 searching-whole members judge e h = subst (ShownWhole judge e) (sym h) tt
 
 pub children-step :
-    {S C : Type 0} (members : Store.Ghosts S) (judge : Judge.Ghosts C) (d d' e : State S C) (c : Candidate) → c.length < block_length (plan_in d.block)
+    {S C : Type 0} (members : Store.Ghosts S) (judge : Judge.Ghosts C) (d d' e : State S C) (c : Candidate) → MayStep members judge d → c.length < block_length (plan_in d.block)
     → (Ready members judge d' → d'.counts.serial < 4294967294 → c.metric ≡ path_cost (log_length (plan_in d'.block)) (llr_in d'.block) (path_of d' c) → loaded_of members judge e ≡ put_children ruled (path_of d' c) (loaded_of members judge d') (allowed (kinds_of (plan_in d'.block)) (path_of d' c)))
     → ((RowsApart (members.kept d'.store) → RowsApart (members.kept e.store)) × (e.counts.serial ≤ d'.counts.serial + 2))
-    → Searched d' e → (d.counts.steps < d.counts.most_steps → Took members judge d d' c) → d'.phase ≡ d.phase → d'.check ≡ d.check → d'.block ≡ d.block
+    → Searched d' e → Took members judge d d' c → d'.phase ≡ d.phase → d'.check ≡ d.check → d'.block ≡ d.block
     → Stepped members judge d e
-children-step members judge d d' e c part puts apart frame took here check block = record {
+children-step members judge d d' e c may part puts apart frame took here check block = record {
   model = model;
-  sound = λ sound searching steps failures.
-      let t = took steps in
-      sound-step members judge d e sound (model sound searching steps failures) (apart.0 (took-apart members judge d d' c t sound))
-      (let h = apart.1 in let k = sound.serials in let a = t.serial in let b = t.steps in let n = frame.framed.steps in omega arith)
-      (searching-whole members judge e (frame.phase ∙ here ∙ searching));
-  loaded = λ searching. ap is_loaded (frame.phase ∙ here ∙ searching);
+  sound =
+      sound-step members judge d e may.sound model (apart.0 (took-apart members judge d d' c took may.sound))
+      (let h = apart.1 in let k = may.sound.serials in let a = took.serial in let b = took.steps in let n = frame.framed.steps in omega arith)
+      (searching-whole members judge e (frame.phase ∙ here ∙ may.searching));
+  loaded = ap is_loaded (frame.phase ∙ here ∙ may.searching);
   check = (frame.framed.check ∙ check, frame.framed.block ∙ block);
 }
   where
-    model : Sound members judge d → d.phase ≡ phase.Searching → d.counts.steps < d.counts.most_steps → d.counts.failures < d.counts.most_failures → loaded_of members judge e ≡ step ruled (loaded_of members judge d)
-    model sound searching steps failures =
-        let t = took steps in
-        children-put members judge d d' c t e part (puts (took-ready members judge d d' c t sound searching steps) (took-serials members judge d d' c t sound steps) (took-metric members judge d d' c t sound))
+    model : loaded_of members judge e ≡ step ruled (loaded_of members judge d)
+    model =
+        children-put members judge d d' c took e part (puts (took-ready members judge d d' c took may.sound may.searching may.steps) (took-serials members judge d d' c took may.sound may.steps) (took-metric members judge d d' c took may.sound))
 
 pub word-step :
-    {S C : Type 0} (members : Store.Ghosts S) (judge : Judge.Ghosts C) (d d' e : State S C) (c : Candidate) → block_length (plan_in d.block) ≤ c.length
+    {S C : Type 0} (members : Store.Ghosts S) (judge : Judge.Ghosts C) (d d' e : State S C) (c : Candidate) → MayStep members judge d → block_length (plan_in d.block) ≤ c.length
     → (c.length ≡ block_length (plan_in d'.block) → d'.counts.failures < 4294967295 → d'.phase ≡ phase.Searching → loaded_of members judge e ≡ judged (candidate_in (path_at d'.rows) c) (loaded_of members judge d'))
     → ((e.store ≡ d'.store) × (e.counts.serial ≡ d'.counts.serial)) → Framed d' e
     → (c.length ≡ block_length (plan_in d'.block) → d'.phase ≡ phase.Searching → ShownWhole judge e e.phase) → (d'.phase ≡ phase.Searching → is_loaded e.phase ≡ true)
-    → (d.counts.steps < d.counts.most_steps → Took members judge d d' c) → d'.phase ≡ d.phase → d'.check ≡ d.check → d'.block ≡ d.block
+    → Took members judge d d' c → d'.phase ≡ d.phase → d'.check ≡ d.check → d'.block ≡ d.block
     → Stepped members judge d e
-word-step members judge d d' e c long judges same frame shown loaded took here check block = record {
+word-step members judge d d' e c may long judges same frame shown loaded took here check block = record {
   model = model;
-  sound = λ sound searching steps failures.
-      let t = took steps in
-      sound-step members judge d e sound (model sound searching steps failures) (subst (λ s. RowsApart (members.kept s)) (sym same.0) (took-apart members judge d d' c t sound))
-      (let k = sound.serials in let a = t.serial in let b = t.steps in let n = frame.steps in let h = same.1 in omega arith)
-      (shown (whole sound steps ∙ ap (λ x. block_length (plan_in x)) (sym block)) (here ∙ searching));
-  loaded = λ searching. loaded (here ∙ searching);
+  sound =
+      sound-step members judge d e may.sound model (subst (λ s. RowsApart (members.kept s)) (sym same.0) (took-apart members judge d d' c took may.sound))
+      (let k = may.sound.serials in let a = took.serial in let b = took.steps in let n = frame.steps in let h = same.1 in omega arith)
+      (shown (whole ∙ ap (λ x. block_length (plan_in x)) (sym block)) (here ∙ may.searching));
+  loaded = loaded (here ∙ may.searching);
   check = (frame.check ∙ check, frame.block ∙ block);
 }
   where
-    whole : Sound members judge d → d.counts.steps < d.counts.most_steps → c.length ≡ block_length (plan_in d.block)
-    whole sound steps = let h = took-length members judge d d' c (took steps) sound in omega arith
+    whole : c.length ≡ block_length (plan_in d.block)
+    whole = let h = took-length members judge d d' c took may.sound in omega arith
 
-    model : Sound members judge d → d.phase ≡ phase.Searching → d.counts.steps < d.counts.most_steps → d.counts.failures < d.counts.most_failures → loaded_of members judge e ≡ step ruled (loaded_of members judge d)
-    model sound searching steps failures =
-        let t = took steps in
-        word-judged members judge d d' c t e (whole sound steps)
-        (judges (whole sound steps ∙ ap (λ x. block_length (plan_in x)) (sym block)) (let a = t.failures in let b = d.counts.few in omega arith) (here ∙ searching))
+    model : loaded_of members judge e ≡ step ruled (loaded_of members judge d)
+    model =
+        word-judged members judge d d' c took e whole
+        (judges (whole ∙ ap (λ x. block_length (plan_in x)) (sym block)) (let a = took.failures in let b = d.counts.few in let f = may.failures in omega arith) (here ∙ may.searching))

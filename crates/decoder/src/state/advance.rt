@@ -35,11 +35,13 @@ impl<S: Store, C: Judge> State<S, C> {
 
     // Looks and steps, at most budget times; wipes its working memory on every way out.
     pub fn search(&mut self, budget: u32, room: &mut [i32]) -> Met
+        requires sound { Sound S.Store C.Judge self.old }
+        requires searching { self.old.phase ≡ phase.Searching }
         requires room { 2 * block_length (plan_in self.old.block) ≤ length room.old }
-        ensures model { Sound S.Store C.Judge self.old → self.old.phase ≡ phase.Searching → loaded_of S.Store C.Judge self.new ≡ (search.advanced ruled budget (loaded_of S.Store C.Judge self.old)).1 }
-        ensures met { Sound S.Store C.Judge self.old → self.old.phase ≡ phase.Searching → met_of (shown_path (phase_of self.new)) result ≡ (search.advanced ruled budget (loaded_of S.Store C.Judge self.old)).0 }
-        ensures sound { Sound S.Store C.Judge self.old → self.old.phase ≡ phase.Searching → Sound S.Store C.Judge self.new }
-        ensures loaded { Sound S.Store C.Judge self.old → self.old.phase ≡ phase.Searching → is_loaded self.new.phase ≡ true }
+        ensures model { loaded_of S.Store C.Judge self.new ≡ (search.advanced ruled budget (loaded_of S.Store C.Judge self.old)).1 }
+        ensures met { met_of (shown_path (phase_of self.new)) result ≡ (search.advanced ruled budget (loaded_of S.Store C.Judge self.old)).0 }
+        ensures sound { Sound S.Store C.Judge self.new }
+        ensures loaded { is_loaded self.new.phase ≡ true }
         ensures check { self.new.check ≡ self.old.check }
         ensures room { room.new ≡ replicate (length room.old) (pos 0) }
     {

@@ -4,7 +4,7 @@ ghost use Rattle.cost.specs.Rows.{path_at};
 ghost use Rattle.decoder.specs.Blocks.{plan_in, llr_in, HeldIn};
 ghost use Rattle.decoder.specs.States.{loaded_of, RowsApart, ShownWhole, Sound};
 ghost use Rattle.decoder.specs.Phases.{is_loaded};
-ghost use Rattle.decoder.specs.Steps.{path_of, Ready, Costs, Framed, Searched};
+ghost use Rattle.decoder.specs.Steps.{path_of, MayStep, Ready, Costs, Framed, Searched};
 ghost use Rattle.decoder.specs.declared.phase.Phase.TheVariants as phase;
 ghost use Rattle.model.specs.Blocks.{kinds_of, path_cost};
 ghost use Rattle.model.specs.Reading.{first_bits, candidate_in};
@@ -128,11 +128,12 @@ impl<S: Store, C: Judge> State<S, C> {
 
     // Takes the first candidate, and judges it or puts its children.
     pub(crate) fn step(&mut self, memo: &mut Memo, scratch: &mut [i32])
+        requires may { MayStep S.Store C.Judge self.old }
         requires room { 2 * block_length (plan_in self.old.block) ≤ length scratch.old }
         requires held { HeldIn self.old.block memo.old scratch.old }
-        ensures model { Sound S.Store C.Judge self.old → self.old.phase ≡ phase.Searching → self.old.counts.steps < self.old.counts.most_steps → self.old.counts.failures < self.old.counts.most_failures → loaded_of S.Store C.Judge self.new ≡ search.step ruled (loaded_of S.Store C.Judge self.old) }
-        ensures sound { Sound S.Store C.Judge self.old → self.old.phase ≡ phase.Searching → self.old.counts.steps < self.old.counts.most_steps → self.old.counts.failures < self.old.counts.most_failures → Sound S.Store C.Judge self.new }
-        ensures loaded { self.old.phase ≡ phase.Searching → is_loaded self.new.phase ≡ true }
+        ensures model { loaded_of S.Store C.Judge self.new ≡ search.step ruled (loaded_of S.Store C.Judge self.old) }
+        ensures sound { Sound S.Store C.Judge self.new }
+        ensures loaded { is_loaded self.new.phase ≡ true }
         ensures check { (self.new.check ≡ self.old.check) × (self.new.block ≡ self.old.block) }
         ensures held { HeldIn self.old.block memo.new scratch.new }
     {

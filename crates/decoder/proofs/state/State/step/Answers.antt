@@ -12,9 +12,9 @@ returns-in_default g c =
     let took = c.take.ensures in
     let model = none-taken g.S.Store g.C.Judge d c.take.new.self (sym took.result ∙ c.in_default.is) took.kept took.capacity took.floor in
     record {
-      model = λ sound searching steps failures. model;
-      sound = λ sound searching steps failures. sound-step g.S.Store g.C.Judge d _ sound model (apart-taken (g.S.Store.kept d.store) _ sound.apart took.kept) sound.serials sound.shown;
-      loaded = λ searching. ap is_loaded searching;
+      model = model;
+      sound = let sound = c.requires.may.sound in sound-step g.S.Store g.C.Judge d _ sound model (apart-taken (g.S.Store.kept d.store) _ sound.apart took.kept) sound.serials sound.shown;
+      loaded = ap is_loaded c.requires.may.searching;
       check = (refl, refl);
       held = c.requires.held;
     }
@@ -25,8 +25,8 @@ returns-then-c-length g c =
     let took = c.take.ensures in
     let done = c.put_children.ensures in
     let part : c.in-Some.c.length < block_length (plan_in d.block) = let h = c.if-c-length.true in let k = c.length.ensures.result ∙ ap block_length c.plan.ensures in omega arith in
-    let s = children-step g.S.Store g.C.Judge d _ c.put_children.new.self c.in-Some.c part done.model done.apart done.frame
-    (λ steps. record { answer = sym took.result ∙ c.in-Some.is; kept = took.kept; capacity = took.capacity; floor = took.floor; rows = refl; check = refl; block = refl; most_failures = refl; most_steps = refl; serial = refl; steps = let h = c.saturating_add-self.ensures in let k = d.counts.brief in omega arith; failures = refl; phase = refl })
+    let s = children-step g.S.Store g.C.Judge d _ c.put_children.new.self c.in-Some.c c.requires.may part done.model done.apart done.frame
+    (record { answer = sym took.result ∙ c.in-Some.is; kept = took.kept; capacity = took.capacity; floor = took.floor; rows = refl; check = refl; block = refl; most_failures = refl; most_steps = refl; serial = refl; steps = let h = c.saturating_add-self.ensures in let k = d.counts.brief in let m = c.requires.may.steps in omega arith; failures = refl; phase = refl })
     refl refl refl in
     record { model = s.model; sound = s.sound; loaded = s.loaded; check = s.check; held = done.held }
 
@@ -36,7 +36,7 @@ returns g c =
     let took = c.take.ensures in
     let done = c.judge.ensures in
     let long : block_length (plan_in d.block) ≤ c.in-Some.c.length = let h = c.if-c-length.false in let k = c.length.ensures.result ∙ ap block_length c.plan.ensures in omega arith in
-    let s = word-step g.S.Store g.C.Judge d _ c.judge.new.self c.in-Some.c long done.model done.store done.frame done.shown done.loaded
-    (λ steps. record { answer = sym took.result ∙ c.in-Some.is; kept = took.kept; capacity = took.capacity; floor = took.floor; rows = refl; check = refl; block = refl; most_failures = refl; most_steps = refl; serial = refl; steps = let h = c.saturating_add-self.ensures in let k = d.counts.brief in omega arith; failures = refl; phase = refl })
+    let s = word-step g.S.Store g.C.Judge d _ c.judge.new.self c.in-Some.c c.requires.may long done.model done.store done.frame done.shown done.loaded
+    (record { answer = sym took.result ∙ c.in-Some.is; kept = took.kept; capacity = took.capacity; floor = took.floor; rows = refl; check = refl; block = refl; most_failures = refl; most_steps = refl; serial = refl; steps = let h = c.saturating_add-self.ensures in let k = d.counts.brief in let m = c.requires.may.steps in omega arith; failures = refl; phase = refl })
     refl refl refl in
     record { model = s.model; sound = s.sound; loaded = s.loaded; check = s.check; held = c.requires.held }
