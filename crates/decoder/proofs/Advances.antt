@@ -1,6 +1,8 @@
 -- The looks and the turns of an advance, over the decoder as it is read. Assumes nothing.
 use Rattle.std.proofs.Common.{◌≡◌, ℕ, zero, suc, ◌-◌, ◌<◌, Bool, true, false, cond, eqb, leb, List, [], ◌∷◌, map, length, Some, None, sym, refl, ap, ◌∙◌, arith}
 use Rattle.std.proofs.lemmas.Bool.{or_parts, leb-false, true≢false}
+use Rattle.outer.specs.declared.check.Judge as Judge
+use Rattle.store.specs.declared.store.Store as Store
 use Rattle.cost.specs.Rows.{path_at}
 use Rattle.store.specs.declared.candidate.Candidate.{Candidate}
 use Rattle.search.specs.Paths.{allowed, child, information_bits}
@@ -10,7 +12,8 @@ use Rattle.search.specs.Search as search
 use Rattle.model.specs.Reading.{candidate_in}
 use Rattle.decoder.specs.Answers.{met_of, halt_of, shown_path}
 use Rattle.decoder.specs.Phases.{is_loaded}
-use Rattle.decoder.specs.States.{Meanings, Sound, phase_in, phase_of, loaded_of}
+use Rattle.decoder.specs.States.{Sound, phase_in, phase_of, loaded_of}
+use Rattle.decoder.specs.Steps.{MayStep}
 use Rattle.decoder.specs.declared.report.Met.{Met}
 use Rattle.decoder.specs.declared.report.Met.TheVariants as met
 use Rattle.decoder.specs.declared.state.State.{State}
@@ -112,30 +115,30 @@ still-searching paths (phase.Shown c) d s e hides = absurd (hides c refl)
 still-searching paths phase.Ended d s e hides = absurd (never_ends d s e)
 
 -- Between two turns: what is left of the budget does the rest, from a sound decoder that searches.
-pub record Going {S C : Type 0} (m : Meanings S C) (before now : State S C) (budget left : ℕ) : Type 0 where
-  pub rest : search.advanced stores.ruled budget (loaded_of m before) ≡ search.advanced stores.ruled left (loaded_of m now)
-  pub sound : Sound m now
+pub record Going {S C : Type 0} (members : Store.Ghosts S) (judge : Judge.Ghosts C) (before now : State S C) (budget left : ℕ) : Type 0 where
+  pub rest : search.advanced stores.ruled budget (loaded_of members judge before) ≡ search.advanced stores.ruled left (loaded_of members judge now)
+  pub sound : Sound members judge now
   pub phase : now.phase ≡ phase.Searching
 
 -- at the end: what the whole budget does was done
-pub record Done {S C : Type 0} (m : Meanings S C) (before after : State S C) (budget : ℕ) (end : Met) : Type 0 where
-  pub model : loaded_of m after ≡ (search.advanced stores.ruled budget (loaded_of m before)).1
-  pub met : met_of (shown_path (phase_of m after)) end ≡ (search.advanced stores.ruled budget (loaded_of m before)).0
-  pub sound : Sound m after
+pub record Done {S C : Type 0} (members : Store.Ghosts S) (judge : Judge.Ghosts C) (before after : State S C) (budget : ℕ) (end : Met) : Type 0 where
+  pub model : loaded_of members judge after ≡ (search.advanced stores.ruled budget (loaded_of members judge before)).1
+  pub met : met_of (shown_path (phase_of after)) end ≡ (search.advanced stores.ruled budget (loaded_of members judge before)).0
+  pub sound : Sound members judge after
   pub loaded : is_loaded after.phase ≡ true
 
 abbrev pub ended : {S C : Type 0} → State S C → State S C
 ended d = record { store = d.store; check = d.check; block = d.block; rows = d.rows; counts = d.counts; phase = phase.Ended }
 
-pub starts : {S C : Type 0} (m : Meanings S C) (d : State S C) (budget : ℕ) → Sound m d → d.phase ≡ phase.Searching → Going m d d budget (budget - 0)
-starts m d budget s p =
+pub starts : {S C : Type 0} (members : Store.Ghosts S) (judge : Judge.Ghosts C) (d : State S C) (budget : ℕ) → Sound members judge d → d.phase ≡ phase.Searching → Going members judge d d budget (budget - 0)
+starts members judge d budget s p =
     let all : budget ≡ budget - 0 = omega arith in
-    record { rest = ap (λ n. search.advanced stores.ruled n (loaded_of m d)) all; sound = s; phase = p }
+    record { rest = ap (λ n. search.advanced stores.ruled n (loaded_of members judge d)) all; sound = s; phase = p }
 
-module _ {S C : Type 0} (m : Meanings S C) (before now : State S C) (budget left : ℕ) (going : Going m before now budget left) where
-  pub done-halted : (met : Met) → halt_of (Some met) ≡ search.halt stores.ruled (loaded_of m now) → Done m before (ended now) budget met
+module _ {S C : Type 0} (members : Store.Ghosts S) (judge : Judge.Ghosts C) (before now : State S C) (budget left : ℕ) (going : Going members judge before now budget left) where
+  pub done-halted : (met : Met) → halt_of (Some met) ≡ search.halt stores.ruled (loaded_of members judge now) → Done members judge before (ended now) budget met
   done-halted met e =
-      let end = going.rest ∙ halted stores.ruled left (loaded_of m now) (met_of [] met) (sym e) in
+      let end = going.rest ∙ halted stores.ruled left (loaded_of members judge now) (met_of [] met) (sym e) in
       record {
         model = sym (ap (λ p. p.1) end);
         met = sym (ap (λ p. p.0) end);
@@ -143,9 +146,9 @@ module _ {S C : Type 0} (m : Meanings S C) (before now : State S C) (budget left
         loaded = refl;
       }
 
-  pub done-paused : left ≡ 0 → None ≡ search.halt stores.ruled (loaded_of m now) → Done m before now budget met.Paused
+  pub done-paused : left ≡ 0 → None ≡ search.halt stores.ruled (loaded_of members judge now) → Done members judge before now budget met.Paused
   done-paused none e =
-      let end = going.rest ∙ ap (λ n. search.advanced stores.ruled n (loaded_of m now)) none ∙ paused stores.ruled (loaded_of m now) (sym e) in
+      let end = going.rest ∙ ap (λ n. search.advanced stores.ruled n (loaded_of members judge now)) none ∙ paused stores.ruled (loaded_of members judge now) (sym e) in
       record {
         model = sym (ap (λ p. p.1) end);
         met = sym (ap (λ p. p.0) end);
@@ -153,23 +156,21 @@ module _ {S C : Type 0} (m : Meanings S C) (before now : State S C) (budget left
         loaded = ap is_loaded going.phase;
       }
 
+  pub may-step : None ≡ search.halt stores.ruled (loaded_of members judge now) → MayStep members judge now
+  may-step looks =
+      let (f, s) = has_left (loaded_of members judge now) (sym looks) in
+      record { sound = going.sound; searching = going.phase; steps = s; failures = f }
+
   module _
-      (after : State S C) (n : ℕ) (some : left ≡ suc n) (looks : None ≡ search.halt stores.ruled (loaded_of m now))
-      (step : Sound m now → now.phase ≡ phase.Searching → now.counts.steps < now.counts.most_steps → now.counts.failures < now.counts.most_failures → loaded_of m after ≡ search.step stores.ruled (loaded_of m now))
-      (sound : Sound m now → now.phase ≡ phase.Searching → now.counts.steps < now.counts.most_steps → now.counts.failures < now.counts.most_failures → Sound m after)
+      (after : State S C) (n : ℕ) (some : left ≡ suc n) (looks : None ≡ search.halt stores.ruled (loaded_of members judge now))
+      (stepped : loaded_of members judge after ≡ search.step stores.ruled (loaded_of members judge now)) (stays-sound : Sound members judge after)
     where
-      stepped : loaded_of m after ≡ search.step stores.ruled (loaded_of m now)
-      stepped = let (f, s) = has_left (loaded_of m now) (sym looks) in step going.sound going.phase s f
+      onward : search.advanced stores.ruled budget (loaded_of members judge before) ≡ search.advanced stores.ruled (suc n) (loaded_of members judge now)
+      onward = going.rest ∙ ap (λ k. search.advanced stores.ruled k (loaded_of members judge now)) some
 
-      stays-sound : Sound m after
-      stays-sound = let (f, s) = has_left (loaded_of m now) (sym looks) in sound going.sound going.phase s f
-
-      onward : search.advanced stores.ruled budget (loaded_of m before) ≡ search.advanced stores.ruled (suc n) (loaded_of m now)
-      onward = going.rest ∙ ap (λ k. search.advanced stores.ruled k (loaded_of m now)) some
-
-      pub done-shown : (c : Candidate) → after.phase ≡ phase.Shown c → Done m before after budget met.Shown
+      pub done-shown : (c : Candidate) → after.phase ≡ phase.Shown c → Done members judge before after budget met.Shown
       done-shown c is =
-          let end = onward ∙ shows stores.ruled n (loaded_of m now) (loaded_of m after) (sym looks) stepped (candidate_in (path_at after.rows) c) (ap (phase_in (path_at after.rows)) is) in
+          let end = onward ∙ shows stores.ruled n (loaded_of members judge now) (loaded_of members judge after) (sym looks) stepped (candidate_in (path_at after.rows) c) (ap (phase_in (path_at after.rows)) is) in
           record {
             model = sym (ap (λ p. p.1) end);
             met = ap (λ φ. calls.ShownWord (shown_path (phase_in (path_at after.rows) φ))) is ∙ sym (ap (λ p. p.0) end);
@@ -177,12 +178,12 @@ module _ {S C : Type 0} (m : Meanings S C) (before now : State S C) (budget left
             loaded = ap is_loaded is;
           }
 
-      pub goes-again : ((c : Candidate) → after.phase ≡ phase.Shown c → ⊥) → Going m before after budget n
+      pub goes-again : ((c : Candidate) → after.phase ≡ phase.Shown c → ⊥) → Going members judge before after budget n
       goes-again hides =
           let paths = path_at after.rows in
-          let is = still-searching paths after.phase (loaded_of m now) (ap (phase_in (path_at now.rows)) going.phase) (ap (λ d. d.phase) stepped) hides in
+          let is = still-searching paths after.phase (loaded_of members judge now) (ap (phase_in (path_at now.rows)) going.phase) (ap (λ d. d.phase) stepped) hides in
           record {
-            rest = onward ∙ turns stores.ruled n (loaded_of m now) (loaded_of m after) (sym looks) stepped (ap (phase_in paths) is);
+            rest = onward ∙ turns stores.ruled n (loaded_of members judge now) (loaded_of members judge after) (sym looks) stepped (ap (phase_in paths) is);
             sound = stays-sound;
             phase = is;
           }

@@ -5,7 +5,7 @@ use Rattle.clean.specs.Advances.{CleanWordFirst, PayloadRead}
 use Rattle.clean.specs.Received.{path_of}
 use Rattle.model.specs.Blocks.{meaning_of}
 use Rattle.model.specs.Laws.{Hopeful}
-use Rattle.outer.specs.declared.check.Judge as judge
+use Rattle.outer.specs.declared.check.Judge as Judge
 use Rattle.plan.specs.Plans.{block_length, payload_bits}
 use Rattle.plan.specs.declared.plan.Plan.{Plan}
 use Rattle.search.specs.Calls.{Decoder, Busy}
@@ -18,7 +18,7 @@ use Rattle.decoder.specs.declared.limits.Limits.{Limits}
 
 -- after is what a granted load makes of before
 pub clean-first :
-    {C : Type 0} (judge : judge.Ghosts C) (check : C) (plan : Plan) (llrs : List ℤ) (limits : Limits) (before after : Decoder Contents) → Hopeful (meaning_of judge check)
+    {C : Type 0} (judge : Judge.Ghosts C) (check : C) (plan : Plan) (llrs : List ℤ) (limits : Limits) (before after : Decoder Contents) → Hopeful (meaning_of judge check)
     → load_refusal (request_of judge check plan llrs limits) ≡ None
     → after ≡ (unless_refused before (load_refusal (request_of judge check plan llrs limits)) (reporting ruled (loaded ruled (store_of before) (request_of judge check plan llrs limits)))).0
     → CleanFirst plan (meaning_of judge check) llrs limits after

@@ -7,7 +7,7 @@ use Rattle.std.specs.Result.{IsErrAnd}
 use Rattle.base.specs.declared.refusal.Refusal.{Refusal}
 use Rattle.base.specs.declared.refusal.Refusal.TheVariants as refusal
 use Rattle.cost.specs.Limits.{is_loadable, first_beyond}
-use Rattle.outer.specs.declared.check.Judge as judge
+use Rattle.outer.specs.declared.check.Judge as Judge
 use Rattle.plan.specs.declared.plan.Plan.{Plan}
 use Rattle.plan.specs.Plans.{log_length, block_length}
 use Rattle.search.specs.Search.{value_refusal, load_refusal}
@@ -29,7 +29,7 @@ none-refused (Some at) is = absurd (both_ways false refl is)
 same_block : (plan plan' : Plan) (llr llr' : ℕ → ℤ) (check : Meaning) → plan ≡ plan' → ((k : ℕ) → llr k ≡ llr' k) → block_of plan llr check ≡ block_of plan' llr' check
 same_block plan plan' llr llr' check p q = ap₂ (λ x y. block_of x y check) p (fun_ext q)
 
-module _ {C : Type 0} (judge : judge.Ghosts C) (check : C) (plan : Plan) (llrs : List ℤ) (limits : Limits) where
+module _ {C : Type 0} (judge : Judge.Ghosts C) (check : C) (plan : Plan) (llrs : List ℤ) (limits : Limits) where
   abbrev apart : Bool
   apart = (fits_check (judge.bits check) (judge.longest check) plan && eqb (length llrs) (block_length plan)) && limits_allowed limits
 

@@ -1,6 +1,8 @@
 -- The payload of a shown word, as it is read and written. Assumes nothing.
 use Rattle.std.proofs.Common.{◌≡◌, ℕ, ◌+◌, ◌<◌, ◌≤◌, Bool, true, false, List, [], ◌∷◌, ◌++◌, map, length, get_or, take, set, sym, ap, ◌∙◌, subst, ap₂, arith, Result, is_ok, OnOk}
 use Rattle.std.proofs.lemmas.List.{map_more, take_more_set}
+use Rattle.outer.specs.declared.check.Judge as Judge
+use Rattle.store.specs.declared.store.Store as Store
 use Rattle.code.specs.Sending.{byte_of}
 use Rattle.cost.specs.Rows.{path_at}
 use Rattle.crc.specs.Lengths.{fitting}
@@ -9,11 +11,11 @@ use Rattle.plan.specs.declared.plan.Plan.{Plan}
 use Rattle.plan.specs.Plans.{block_length, payload_bits}
 use Rattle.store.specs.declared.candidate.Candidate.{Candidate}
 use Rattle.search.specs.Paths.{information_from}
-use Rattle.model.specs.Blocks.{kinds_of}
+use Rattle.model.specs.Blocks.{meaning_of, kinds_of}
 use Rattle.model.specs.Reading.{first_bits}
 use Rattle.decoder.specs.Answers.{payload_in}
 use Rattle.decoder.specs.Blocks.{plan_in}
-use Rattle.decoder.specs.States.{Meanings, contents_of, loaded_in, phase_in, unless_blank, model_of, OnceLoaded, ShownWhole, Sound, Coherent}
+use Rattle.decoder.specs.States.{contents_of, loaded_in, phase_in, unless_blank, model_of, OnceLoaded, ShownWhole, Sound, Coherent}
 use Rattle.decoder.specs.declared.state.State.{State}
 use Rattle.decoder.specs.declared.phase.Phase.TheVariants as phase
 
@@ -31,17 +33,17 @@ read-accepted longest bits carried a word before after r (most, whole) size answ
 
 -- the payload of a shown word is what the check carries in the information bits of its path
 pub shown-payload :
-    {S C : Type 0} (m : Meanings S C) (d : State S C) (c : Candidate) (plan : Plan) (row : ℕ → Bool) (n : ℕ) (word : List Bool) (a : ℕ) (out : List ℕ)
-    → d.phase ≡ phase.Shown c → Coherent m d → plan ≡ plan_in d.block → row ≡ path_at d.rows c.row → n ≡ block_length plan
+    {S C : Type 0} (members : Store.Ghosts S) (judge : Judge.Ghosts C) (d : State S C) (c : Candidate) (plan : Plan) (row : ℕ → Bool) (n : ℕ) (word : List Bool) (a : ℕ) (out : List ℕ)
+    → d.phase ≡ phase.Shown c → Coherent members judge d → plan ≡ plan_in d.block → row ≡ path_at d.rows c.row → n ≡ block_length plan
     → word ≡ information_from (kinds_of plan) 0 (first_bits row n) → a ≡ payload_bits (plan_in d.block)
-    → ((m.check d.check).accepted a word ≡ true → out ≡ map byte_of ((m.check d.check).carried a word)) → out ≡ map byte_of (payload_in (model_of m d))
-shown-payload m d c plan row n word a out shown coherent plans rows size bits length written =
+    → ((meaning_of judge d.check).accepted a word ≡ true → out ≡ map byte_of ((meaning_of judge d.check).carried a word)) → out ≡ map byte_of (payload_in (model_of members judge d))
+shown-payload members judge d c plan row n word a out shown coherent plans rows size bits length written =
     let paths = path_at d.rows in
-    let sound : Sound m d = subst (λ p. OnceLoaded p (Sound m d)) shown coherent in
-    let (whole, accepted) = subst (ShownWhole m d) shown sound.shown in
+    let sound : Sound members judge d = subst (λ p. OnceLoaded p (Sound members judge d)) shown coherent in
+    let (whole, accepted) = subst (ShownWhole judge d) shown sound.shown in
     let kinds = kinds_of (plan_in d.block) in
     let same : word ≡ information_from kinds 0 (first_bits (paths c.row) (block_length (plan_in d.block))) =
     bits ∙ ap₂ (λ p k. information_from (kinds_of p) 0 (first_bits row k)) plans (size ∙ ap block_length plans) ∙ ap (λ u. information_from kinds 0 (first_bits u (block_length (plan_in d.block)))) rows in
-    written (ap₂ (m.check d.check).accepted length same ∙ accepted)
-    ∙ ap₂ (λ k w. map byte_of ((m.check d.check).carried k w)) length (same ∙ ap (λ k. information_from kinds 0 (first_bits (paths c.row) k)) (sym whole))
-    ∙ sym (ap (λ p. map byte_of (payload_in (unless_blank p (contents_of m d) (loaded_in m d (phase_in paths p))))) shown)
+    written (ap₂ (meaning_of judge d.check).accepted length same ∙ accepted)
+    ∙ ap₂ (λ k w. map byte_of ((meaning_of judge d.check).carried k w)) length (same ∙ ap (λ k. information_from kinds 0 (first_bits (paths c.row) k)) (sym whole))
+    ∙ sym (ap (λ p. map byte_of (payload_in (unless_blank p (contents_of members d) (loaded_in members judge d (phase_in paths p))))) shown)

@@ -1,6 +1,8 @@
 -- A whole step, from what its parts promise. Assumes nothing.
 use Rattle.std.proofs.Common.{◌≡◌, ℕ, suc, ◌+◌, ◌*◌, ◌^◌, ◌<◌, ◌≤◌, Bool, true, eqb, List, [], ◌∷◌, map, length, Some, None, Option, sym, refl, ap, ◌∙◌, subst, ap₂, arith}
 use Rattle.std.proofs.lemmas.Bool.{cond-true, cond-false, eq-eqb, ne_eqb}
+use Rattle.outer.specs.declared.check.Judge as Judge
+use Rattle.store.specs.declared.store.Store as Store
 use Rattle.cost.specs.Values.{contradicts}
 use Rattle.cost.specs.Path.{decision}
 use Rattle.cost.specs.Rows.{path_at}
@@ -21,9 +23,9 @@ use Rattle.model.specs.Reading.{first_bits, candidate_in, contents_in}
 use Rattle.model.proofs.Following.{same_read, take-follows}
 use Rattle.model.proofs.Children.{first-length, cost-first, cost-child}
 use Rattle.decoder.specs.Blocks.{plan_in, llr_in}
-use Rattle.decoder.specs.States.{Meanings, contents_of, loaded_of, RowsApart, ShownWhole, Sound}
+use Rattle.decoder.specs.States.{contents_of, loaded_of, RowsApart, ShownWhole, Sound}
 use Rattle.decoder.specs.Phases.{is_loaded}
-use Rattle.decoder.specs.Steps.{path_of, Ready, Costs, Framed, Searched}
+use Rattle.decoder.specs.Steps.{path_of, MayStep, Ready, Costs, Framed, Searched}
 use Rattle.decoder.specs.declared.state.State.{State}
 use Rattle.decoder.specs.declared.phase.Phase.TheVariants as phase
 use Rattle.decoder.proofs.Apart.{apart-taken}
@@ -55,9 +57,9 @@ costs-on d d' c bit more block path costs = record {
 }
 
 pub ready_on :
-    {S C : Type 0} (m : Meanings S C) (d d' : State S C) → Ready m d → d.counts.serial < 4294967294 → d'.phase ≡ d.phase
-    → Each (λ k. k.serial < d'.counts.serial) (m.kept d'.store) → d'.counts.serial ≤ d.counts.serial + 1 → Ready m d'
-ready_on m d d' ready small phase later serial = record { phase = phase ∙ ready.phase; later = later; fits = omega arith }
+    {S C : Type 0} (members : Store.Ghosts S) (judge : Judge.Ghosts C) (d d' : State S C) → Ready members judge d → d.counts.serial < 4294967294 → d'.phase ≡ d.phase
+    → Each (λ k. k.serial < d'.counts.serial) (members.kept d'.store) → d'.counts.serial ≤ d.counts.serial + 1 → Ready members judge d'
+ready_on members judge d d' ready small phase later serial = record { phase = phase ∙ ready.phase; later = later; fits = omega arith }
 
 pub searched-on : {S C : Type 0} (a b c : State S C) → Searched a b → Searched b c → Searched a c
 searched-on a b c p q = record {
@@ -102,21 +104,21 @@ serials-of paths b n (x ∷ xs) h = (h.0.serial, serials-of paths b n xs h.1)
 -- What a step leads to, if it leads to what the search's does
 
 pub sound-step :
-    {S C : Type 0} (m : Meanings S C) (d e : State S C) → Sound m d → loaded_of m e ≡ step ruled (loaded_of m d)
-    → RowsApart (m.kept e.store) → e.counts.serial ≤ 2 * e.counts.steps + 1 → ShownWhole m e e.phase → Sound m e
-sound-step m d e sound model apart serials shown = record {
-  exact = subst (AllExact ruled) (sym model) ((stays-exact ruled rules-make-a-store).steps (loaded_of m d) sound.exact);
+    {S C : Type 0} (members : Store.Ghosts S) (judge : Judge.Ghosts C) (d e : State S C) → Sound members judge d → loaded_of members judge e ≡ step ruled (loaded_of members judge d)
+    → RowsApart (members.kept e.store) → e.counts.serial ≤ 2 * e.counts.steps + 1 → ShownWhole judge e e.phase → Sound members judge e
+sound-step members judge d e sound model apart serials shown = record {
+  exact = subst (AllExact ruled) (sym model) ((stays-exact ruled rules-make-a-store).steps (loaded_of members judge d) sound.exact);
   apart = apart;
   serials = serials;
   shown = shown;
 }
 
 -- d' is d after the take of c, with the step counted
-pub record Took {S C : Type 0} (m : Meanings S C) (d d' : State S C) (c : Candidate) : Type 0 where
-  pub answer : (store.takes (m.kept d.store)).answer ≡ Some c
-  pub kept : m.kept d'.store ≡ (store.takes (m.kept d.store)).stays
-  pub capacity : m.capacity d'.store ≡ m.capacity d.store
-  pub floor : m.floor d'.store ≡ store.lowered store.metric_of (m.floor d.store) (store.takes (m.kept d.store)).shed
+pub record Took {S C : Type 0} (members : Store.Ghosts S) (judge : Judge.Ghosts C) (d d' : State S C) (c : Candidate) : Type 0 where
+  pub answer : (store.takes (members.kept d.store)).answer ≡ Some c
+  pub kept : members.kept d'.store ≡ (store.takes (members.kept d.store)).stays
+  pub capacity : members.capacity d'.store ≡ members.capacity d.store
+  pub floor : members.floor d'.store ≡ store.lowered store.metric_of (members.floor d.store) (store.takes (members.kept d.store)).shed
   pub rows : d'.rows ≡ d.rows
   pub check : d'.check ≡ d.check
   pub block : d'.block ≡ d.block
@@ -129,136 +131,132 @@ pub record Took {S C : Type 0} (m : Meanings S C) (d d' : State S C) (c : Candid
 
 -- a step that finds nothing leaves the state as it is
 pub none-taken :
-    {S C : Type 0} (m : Meanings S C) (d : State S C) (s : S) → (store.takes (m.kept d.store)).answer ≡ None
-    → m.kept s ≡ (store.takes (m.kept d.store)).stays → m.capacity s ≡ m.capacity d.store
-    → m.floor s ≡ store.lowered store.metric_of (m.floor d.store) (store.takes (m.kept d.store)).shed
-    → loaded_of m (record { store = s; check = d.check; block = d.block; rows = d.rows; counts = d.counts; phase = d.phase }) ≡ step ruled (loaded_of m d)
+    {S C : Type 0} (members : Store.Ghosts S) (judge : Judge.Ghosts C) (d : State S C) (s : S) → (store.takes (members.kept d.store)).answer ≡ None
+    → members.kept s ≡ (store.takes (members.kept d.store)).stays → members.capacity s ≡ members.capacity d.store
+    → members.floor s ≡ store.lowered store.metric_of (members.floor d.store) (store.takes (members.kept d.store)).shed
+    → loaded_of members judge (record { store = s; check = d.check; block = d.block; rows = d.rows; counts = d.counts; phase = d.phase }) ≡ step ruled (loaded_of members judge d)
 unfolding store.lowered
-none-taken m d s none kept capacity floor =
-    let empty : m.kept d.store ≡ [] = takes_none (m.kept d.store) none in
+none-taken members judge d s none kept capacity floor =
+    let empty : members.kept d.store ≡ [] = takes_none (members.kept d.store) none in
     let paths = path_at d.rows in
-    let same : contents_in paths (m.kept s) (m.capacity s) (m.floor s) ≡ contents_of m d =
-    same_read paths (kept ∙ ap (λ k. (store.takes k).stays) empty ∙ sym empty) capacity (floor ∙ ap (λ k. store.lowered store.metric_of (m.floor d.store) (store.takes k).shed) empty) in
-    ap (λ x. record { block = (loaded_of m d).block; most_failures = (loaded_of m d).most_failures; most_steps = (loaded_of m d).most_steps; store = x; serial = (loaded_of m d).serial; steps = (loaded_of m d).steps; failures = (loaded_of m d).failures; phase = (loaded_of m d).phase }) same
-    ∙ sym (ap (λ k. step_from ruled (loaded_of m d) (map (candidate_in paths) k)) empty)
+    let same : contents_in paths (members.kept s) (members.capacity s) (members.floor s) ≡ contents_of members d =
+    same_read paths (kept ∙ ap (λ k. (store.takes k).stays) empty ∙ sym empty) capacity (floor ∙ ap (λ k. store.lowered store.metric_of (members.floor d.store) (store.takes k).shed) empty) in
+    ap (λ x. record { block = (loaded_of members judge d).block; most_failures = (loaded_of members judge d).most_failures; most_steps = (loaded_of members judge d).most_steps; store = x; serial = (loaded_of members judge d).serial; steps = (loaded_of members judge d).steps; failures = (loaded_of members judge d).failures; phase = (loaded_of members judge d).phase }) same
+    ∙ sym (ap (λ k. step_from ruled (loaded_of members judge d) (map (candidate_in paths) k)) empty)
 
-module _ {S C : Type 0} (m : Meanings S C) (d d' : State S C) (c : Candidate) (took : Took m d d' c) where
+module _ {S C : Type 0} (members : Store.Ghosts S) (judge : Judge.Ghosts C) (d d' : State S C) (c : Candidate) (took : Took members judge d d' c) where
   abbrev paths : ℕ → ℕ → Bool
   paths = path_at d.rows
 
   abbrev rest : List Candidate
-  rest = (store.takes (m.kept d.store)).stays
+  rest = (store.takes (members.kept d.store)).stays
 
-  first : m.kept d.store ≡ c ∷ rest
-  first = takes-some (m.kept d.store) c took.answer
+  first : members.kept d.store ≡ c ∷ rest
+  first = takes-some (members.kept d.store) c took.answer
 
-  loaded-took : loaded_of m d' ≡ after_take ruled (loaded_of m d)
+  loaded-took : loaded_of members judge d' ≡ after_take ruled (loaded_of members judge d)
   loaded-took =
-      let stored : contents_in paths (m.kept d'.store) (m.capacity d'.store) (m.floor d'.store) ≡ taken_from (contents_of m d) =
-      take-follows paths (m.kept d.store) (m.capacity d.store) (m.floor d.store) (m.kept d'.store) (m.capacity d'.store) (m.floor d'.store) took.kept took.capacity took.floor in
+      let stored : contents_in paths (members.kept d'.store) (members.capacity d'.store) (members.floor d'.store) ≡ taken_from (contents_of members d) =
+      take-follows paths (members.kept d.store) (members.capacity d.store) (members.floor d.store) (members.kept d'.store) (members.capacity d'.store) (members.floor d'.store) took.kept took.capacity took.floor in
       cc
 
-  step-explores : step ruled (loaded_of m d) ≡ explored ruled (candidate_in paths c) (after_take ruled (loaded_of m d))
-  step-explores = ap (λ k. step_from ruled (loaded_of m d) (map (candidate_in paths) k)) first
+  step-explores : step ruled (loaded_of members judge d) ≡ explored ruled (candidate_in paths c) (after_take ruled (loaded_of members judge d))
+  step-explores = ap (λ k. step_from ruled (loaded_of members judge d) (map (candidate_in paths) k)) first
 
-  module _ (sound : Sound m d) where
-    exact : Each (Exact (loaded_of m d).block d.counts.serial) (candidate_in paths c ∷ map (candidate_in paths) rest)
-    exact = subst (λ k. Each (Exact (loaded_of m d).block d.counts.serial) (map (candidate_in paths) k)) first sound.exact
+  module _ (sound : Sound members judge d) where
+    exact : Each (Exact (loaded_of members judge d).block d.counts.serial) (candidate_in paths c ∷ map (candidate_in paths) rest)
+    exact = subst (λ k. Each (Exact (loaded_of members judge d).block d.counts.serial) (map (candidate_in paths) k)) first sound.exact
 
     pub took-metric : c.metric ≡ path_cost (log_length (plan_in d'.block)) (llr_in d'.block) (path_of d' c)
     took-metric = exact.0.metric ∙ ap₂ (λ b r. path_cost (log_length (plan_in b)) (llr_in b) (first_bits (path_at r c.row) c.length)) (sym took.block) (sym took.rows)
 
     pub took-length : c.length ≤ block_length (plan_in d.block)
-    took-length = let h = lawful-length (loaded_of m d).block (first_bits (paths c.row) c.length) exact.0.lawful in let k = first-length (paths c.row) c.length in omega arith
+    took-length = let h = lawful-length (loaded_of members judge d).block (first_bits (paths c.row) c.length) exact.0.lawful in let k = first-length (paths c.row) c.length in omega arith
 
     pub took-serials : d.counts.steps < d.counts.most_steps → d'.counts.serial < 4294967294
     took-serials steps = let h = sound.serials in let k = d.counts.brief in let e = took.serial in omega arith
 
-    pub took-ready : d.phase ≡ phase.Searching → d.counts.steps < d.counts.most_steps → Ready m d'
+    pub took-ready : d.phase ≡ phase.Searching → d.counts.steps < d.counts.most_steps → Ready members judge d'
     took-ready searching steps = record {
       phase = took.phase ∙ searching;
-      later = subst (λ n. Each (λ k. k.serial < n) (m.kept d'.store)) (sym took.serial) (subst (Each (λ k. k.serial < d.counts.serial)) (sym took.kept) (serials-of paths (loaded_of m d).block d.counts.serial rest exact.1));
+      later = subst (λ n. Each (λ k. k.serial < n) (members.kept d'.store)) (sym took.serial) (subst (Each (λ k. k.serial < d.counts.serial)) (sym took.kept) (serials-of paths (loaded_of members judge d).block d.counts.serial rest exact.1));
       fits = let h = took-serials steps in omega arith;
     }
 
-    pub took-apart : RowsApart (m.kept d'.store)
-    took-apart = apart-taken (m.kept d.store) (m.kept d'.store) sound.apart took.kept
+    pub took-apart : RowsApart (members.kept d'.store)
+    took-apart = apart-taken (members.kept d.store) (members.kept d'.store) sound.apart took.kept
 
   -- what became of d' is what a step makes of d
 
   pub children-put :
       (e : State S C) → c.length < block_length (plan_in d.block)
-      → loaded_of m e ≡ put_children ruled (path_of d' c) (loaded_of m d') (allowed (kinds_of (plan_in d'.block)) (path_of d' c))
-      → loaded_of m e ≡ step ruled (loaded_of m d)
+      → loaded_of members judge e ≡ put_children ruled (path_of d' c) (loaded_of members judge d') (allowed (kinds_of (plan_in d'.block)) (path_of d' c))
+      → loaded_of members judge e ≡ step ruled (loaded_of members judge d)
   children-put e part model =
       model
       ∙ ap₂ (λ l r. put_children ruled (first_bits (path_at r c.row) c.length) l (allowed l.block.kind (first_bits (path_at r c.row) c.length))) loaded-took took.rows
-      ∙ sym (step-explores ∙ cond-false (eqb c.length (block_length (plan_in d.block))) (judged (candidate_in paths c) (after_take ruled (loaded_of m d))) _ (ne_eqb c.length (block_length (plan_in d.block)) (λ h. omega arith)))
+      ∙ sym (step-explores ∙ cond-false (eqb c.length (block_length (plan_in d.block))) (judged (candidate_in paths c) (after_take ruled (loaded_of members judge d))) _ (ne_eqb c.length (block_length (plan_in d.block)) (λ h. omega arith)))
 
   pub word-judged :
       (e : State S C) → c.length ≡ block_length (plan_in d.block)
-      → loaded_of m e ≡ judged (candidate_in (path_at d'.rows) c) (loaded_of m d')
-      → loaded_of m e ≡ step ruled (loaded_of m d)
+      → loaded_of members judge e ≡ judged (candidate_in (path_at d'.rows) c) (loaded_of members judge d')
+      → loaded_of members judge e ≡ step ruled (loaded_of members judge d)
   word-judged e whole model =
       model ∙ ap₂ (λ r l. judged (candidate_in (path_at r) c) l) took.rows loaded-took
-      ∙ sym (step-explores ∙ cond-true (eqb c.length (block_length (plan_in d.block))) (judged (candidate_in paths c) (after_take ruled (loaded_of m d))) _ (eq-eqb c.length (block_length (plan_in d.block)) whole))
+      ∙ sym (step-explores ∙ cond-true (eqb c.length (block_length (plan_in d.block))) (judged (candidate_in paths c) (after_take ruled (loaded_of members judge d))) _ (eq-eqb c.length (block_length (plan_in d.block)) whole))
 
 -- What a step promises, where e is what it makes of d
 
-pub record Stepped {S C : Type 0} (m : Meanings S C) (d e : State S C) : Type 0 where
-  pub model : Sound m d → d.phase ≡ phase.Searching → d.counts.steps < d.counts.most_steps → d.counts.failures < d.counts.most_failures → loaded_of m e ≡ step ruled (loaded_of m d)
-  pub sound : Sound m d → d.phase ≡ phase.Searching → d.counts.steps < d.counts.most_steps → d.counts.failures < d.counts.most_failures → Sound m e
-  pub loaded : d.phase ≡ phase.Searching → is_loaded e.phase ≡ true
+pub record Stepped {S C : Type 0} (members : Store.Ghosts S) (judge : Judge.Ghosts C) (d e : State S C) : Type 0 where
+  pub model : loaded_of members judge e ≡ step ruled (loaded_of members judge d)
+  pub sound : Sound members judge e
+  pub loaded : is_loaded e.phase ≡ true
   pub check : (e.check ≡ d.check) × (e.block ≡ d.block)
 
-searching-whole : {S C : Type 0} (m : Meanings S C) (e : State S C) → e.phase ≡ phase.Searching → ShownWhole m e e.phase
-searching-whole m e h = subst (ShownWhole m e) (sym h) tt
+searching-whole : {S C : Type 0} (members : Store.Ghosts S) (judge : Judge.Ghosts C) (e : State S C) → e.phase ≡ phase.Searching → ShownWhole judge e e.phase
+searching-whole members judge e h = subst (ShownWhole judge e) (sym h) tt
 
 pub children-step :
-    {S C : Type 0} (m : Meanings S C) (d d' e : State S C) (c : Candidate) → c.length < block_length (plan_in d.block)
-    → (Ready m d' → d'.counts.serial < 4294967294 → c.metric ≡ path_cost (log_length (plan_in d'.block)) (llr_in d'.block) (path_of d' c) → loaded_of m e ≡ put_children ruled (path_of d' c) (loaded_of m d') (allowed (kinds_of (plan_in d'.block)) (path_of d' c)))
-    → ((RowsApart (m.kept d'.store) → RowsApart (m.kept e.store)) × (e.counts.serial ≤ d'.counts.serial + 2))
-    → Searched d' e → (d.counts.steps < d.counts.most_steps → Took m d d' c) → d'.phase ≡ d.phase → d'.check ≡ d.check → d'.block ≡ d.block
-    → Stepped m d e
-children-step m d d' e c part puts apart frame took here check block = record {
+    {S C : Type 0} (members : Store.Ghosts S) (judge : Judge.Ghosts C) (d d' e : State S C) (c : Candidate) → MayStep members judge d → c.length < block_length (plan_in d.block)
+    → (Ready members judge d' → d'.counts.serial < 4294967294 → c.metric ≡ path_cost (log_length (plan_in d'.block)) (llr_in d'.block) (path_of d' c) → loaded_of members judge e ≡ put_children ruled (path_of d' c) (loaded_of members judge d') (allowed (kinds_of (plan_in d'.block)) (path_of d' c)))
+    → ((RowsApart (members.kept d'.store) → RowsApart (members.kept e.store)) × (e.counts.serial ≤ d'.counts.serial + 2))
+    → Searched d' e → Took members judge d d' c → d'.phase ≡ d.phase → d'.check ≡ d.check → d'.block ≡ d.block
+    → Stepped members judge d e
+children-step members judge d d' e c may part puts apart frame took here check block = record {
   model = model;
-  sound = λ sound searching steps failures.
-      let t = took steps in
-      sound-step m d e sound (model sound searching steps failures) (apart.0 (took-apart m d d' c t sound))
-      (let h = apart.1 in let k = sound.serials in let a = t.serial in let b = t.steps in let n = frame.framed.steps in omega arith)
-      (searching-whole m e (frame.phase ∙ here ∙ searching));
-  loaded = λ searching. ap is_loaded (frame.phase ∙ here ∙ searching);
+  sound =
+      sound-step members judge d e may.sound model (apart.0 (took-apart members judge d d' c took may.sound))
+      (let h = apart.1 in let k = may.sound.serials in let a = took.serial in let b = took.steps in let n = frame.framed.steps in omega arith)
+      (searching-whole members judge e (frame.phase ∙ here ∙ may.searching));
+  loaded = ap is_loaded (frame.phase ∙ here ∙ may.searching);
   check = (frame.framed.check ∙ check, frame.framed.block ∙ block);
 }
   where
-    model : Sound m d → d.phase ≡ phase.Searching → d.counts.steps < d.counts.most_steps → d.counts.failures < d.counts.most_failures → loaded_of m e ≡ step ruled (loaded_of m d)
-    model sound searching steps failures =
-        let t = took steps in
-        children-put m d d' c t e part (puts (took-ready m d d' c t sound searching steps) (took-serials m d d' c t sound steps) (took-metric m d d' c t sound))
+    model : loaded_of members judge e ≡ step ruled (loaded_of members judge d)
+    model =
+        children-put members judge d d' c took e part (puts (took-ready members judge d d' c took may.sound may.searching may.steps) (took-serials members judge d d' c took may.sound may.steps) (took-metric members judge d d' c took may.sound))
 
 pub word-step :
-    {S C : Type 0} (m : Meanings S C) (d d' e : State S C) (c : Candidate) → block_length (plan_in d.block) ≤ c.length
-    → (c.length ≡ block_length (plan_in d'.block) → d'.counts.failures < 4294967295 → d'.phase ≡ phase.Searching → loaded_of m e ≡ judged (candidate_in (path_at d'.rows) c) (loaded_of m d'))
+    {S C : Type 0} (members : Store.Ghosts S) (judge : Judge.Ghosts C) (d d' e : State S C) (c : Candidate) → MayStep members judge d → block_length (plan_in d.block) ≤ c.length
+    → (c.length ≡ block_length (plan_in d'.block) → d'.counts.failures < 4294967295 → d'.phase ≡ phase.Searching → loaded_of members judge e ≡ judged (candidate_in (path_at d'.rows) c) (loaded_of members judge d'))
     → ((e.store ≡ d'.store) × (e.counts.serial ≡ d'.counts.serial)) → Framed d' e
-    → (c.length ≡ block_length (plan_in d'.block) → d'.phase ≡ phase.Searching → ShownWhole m e e.phase) → (d'.phase ≡ phase.Searching → is_loaded e.phase ≡ true)
-    → (d.counts.steps < d.counts.most_steps → Took m d d' c) → d'.phase ≡ d.phase → d'.check ≡ d.check → d'.block ≡ d.block
-    → Stepped m d e
-word-step m d d' e c long judges same frame shown loaded took here check block = record {
+    → (c.length ≡ block_length (plan_in d'.block) → d'.phase ≡ phase.Searching → ShownWhole judge e e.phase) → (d'.phase ≡ phase.Searching → is_loaded e.phase ≡ true)
+    → Took members judge d d' c → d'.phase ≡ d.phase → d'.check ≡ d.check → d'.block ≡ d.block
+    → Stepped members judge d e
+word-step members judge d d' e c may long judges same frame shown loaded took here check block = record {
   model = model;
-  sound = λ sound searching steps failures.
-      let t = took steps in
-      sound-step m d e sound (model sound searching steps failures) (subst (λ s. RowsApart (m.kept s)) (sym same.0) (took-apart m d d' c t sound))
-      (let k = sound.serials in let a = t.serial in let b = t.steps in let n = frame.steps in let h = same.1 in omega arith)
-      (shown (whole sound steps ∙ ap (λ x. block_length (plan_in x)) (sym block)) (here ∙ searching));
-  loaded = λ searching. loaded (here ∙ searching);
+  sound =
+      sound-step members judge d e may.sound model (subst (λ s. RowsApart (members.kept s)) (sym same.0) (took-apart members judge d d' c took may.sound))
+      (let k = may.sound.serials in let a = took.serial in let b = took.steps in let n = frame.steps in let h = same.1 in omega arith)
+      (shown (whole ∙ ap (λ x. block_length (plan_in x)) (sym block)) (here ∙ may.searching));
+  loaded = loaded (here ∙ may.searching);
   check = (frame.check ∙ check, frame.block ∙ block);
 }
   where
-    whole : Sound m d → d.counts.steps < d.counts.most_steps → c.length ≡ block_length (plan_in d.block)
-    whole sound steps = let h = took-length m d d' c (took steps) sound in omega arith
+    whole : c.length ≡ block_length (plan_in d.block)
+    whole = let h = took-length members judge d d' c took may.sound in omega arith
 
-    model : Sound m d → d.phase ≡ phase.Searching → d.counts.steps < d.counts.most_steps → d.counts.failures < d.counts.most_failures → loaded_of m e ≡ step ruled (loaded_of m d)
-    model sound searching steps failures =
-        let t = took steps in
-        word-judged m d d' c t e (whole sound steps)
-        (judges (whole sound steps ∙ ap (λ x. block_length (plan_in x)) (sym block)) (let a = t.failures in let b = d.counts.few in omega arith) (here ∙ searching))
+    model : loaded_of members judge e ≡ step ruled (loaded_of members judge d)
+    model =
+        word-judged members judge d d' c took e whole
+        (judges (whole ∙ ap (λ x. block_length (plan_in x)) (sym block)) (let a = took.failures in let b = d.counts.few in let f = may.failures in omega arith) (here ∙ may.searching))

@@ -5,7 +5,7 @@ mod report;
 mod shown;
 
 ghost use Rattle.decoder.specs.Single.{Coherent-prop};
-ghost use Rattle.decoder.specs.States.{meanings, Coherent};
+ghost use Rattle.decoder.specs.States.{Coherent};
 
 use crate::state::State;
 use outer::Judge;
@@ -14,5 +14,5 @@ use store::Store;
 #[derive(Drop)]
 pub struct Decoder<S: Store, C: Judge> {
     state: State<S, C>,
-    ghost coherent: { Coherent (meanings S.Store C.Judge) state } by { Coherent-prop (meanings S.Store C.Judge) state },
+    ghost coherent: { Coherent S.Store C.Judge state } by { Coherent-prop S.Store C.Judge state },
 }

@@ -1,7 +1,7 @@
 -- A loaded block as the search sees it: from a plan, its soft values and what a check means. Assumes nothing.
 use Rattle.std.specs.Prelude.{ℕ, Bool, false, List, length, ℤ, slice_index_or}
 use Rattle.cost.specs.Path.{cost}
-use Rattle.outer.specs.declared.check.Judge as judge
+use Rattle.outer.specs.declared.check.Judge as Judge
 use Rattle.plan.specs.declared.kind.Kind.{Kind}
 use Rattle.plan.specs.declared.kind.Kind.TheVariants.{Frozen, Information, Parity}
 use Rattle.plan.specs.declared.plan.Plan.{Plan}
@@ -16,7 +16,7 @@ pub record Meaning : Type 0 where
   pub carried : ℕ → List Bool → List Bool
 
 -- of a check, by its members
-abbrev pub meaning_of : {C : Type 0} → judge.Ghosts C → C → Meaning
+abbrev pub meaning_of : {C : Type 0} → Judge.Ghosts C → C → Meaning
 meaning_of judge check = record { accepted = judge.accepted check; hopeless = judge.hopeless check; carried = judge.carried check }
 
 abbrev pub kind_of : Kind → search.Kind

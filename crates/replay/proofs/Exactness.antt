@@ -1,6 +1,6 @@
 -- The metrics that are reported with shown words are exact sums. Assumes nothing.
 use Rattle.std.proofs.Common.{◌≡◌, ℕ, zero, suc, List, [], ◌∷◌, take, ℤ, pos, Some, None, Option, slice_index_or, refl, ap, ◌∙◌}
-use Rattle.outer.specs.declared.check.Judge as judge
+use Rattle.outer.specs.declared.check.Judge as Judge
 use Rattle.search.specs.Calls as search
 use Rattle.search.specs.Paths.{Block}
 use Rattle.search.specs.Promise.{EachShown, Faithful}
@@ -17,7 +17,7 @@ use Rattle.replay.specs.declared.call.Call.{Call}
 use Rattle.replay.specs.declared.call.Call.TheVariants as call
 use Rattle.replay.proofs.Replayed.{keeps-promise}
 
-module _ {C : Type 0} (judge : judge.Ghosts C) (check : C) (values : List ℤ) (scratch output : ℕ) where
+module _ {C : Type 0} (judge : Judge.Ghosts C) (check : C) (values : List ℤ) (scratch output : ℕ) where
   -- the loaded block is made from the source
   abbrev Tied : Option Session → Option Source → Type 0
   Tied None None = Unit {0}

@@ -1,22 +1,21 @@
 -- One call played, from what the decoder promises of it. Assumes nothing.
-use Rattle.std.proofs.Common.{◌≡◌, ℕ, ◌*◌, ◌≤◌, Bool, List, ◌++◌, map, length, take, drop, replicate, ℤ, pos, Some, None, Option, sym, refl, ap, ◌∙◌, subst, arith}
+use Rattle.std.proofs.Common.{◌≡◌, ℕ, ◌*◌, ◌≤◌, Bool, List, ◌++◌, map, length, take, drop, replicate, ℤ, pos, Some, None, Option, Ok, Err, Result, sym, refl, ap, ◌∙◌, subst, arith}
 use Rattle.std.proofs.lemmas.List.{append-nil, drop_all, length-map, length-replicate}
 use Rattle.base.specs.declared.refusal.Refusal.{Refusal}
 use Rattle.code.specs.Sending.{byte_of}
 use Rattle.search.specs.Calls as search
 use Rattle.search.specs.Search.{advance_refusal, advanced, advancing, called, in_searching, shown_payload, unless_refused, word_refusal, wording}
 use Rattle.search.specs.Stores.{Contents, ruled}
-use Rattle.decoder.specs.Answers.{met_of, figures_of, advance_verdict}
+use Rattle.decoder.specs.Answers.{KeptIfRefused, met_of, figures_of, advance_verdict}
 use Rattle.decoder.specs.States.{unless_blank}
 use Rattle.decoder.specs.declared.phase.Phase.{Phase}
 use Rattle.decoder.specs.declared.phase.Phase.TheVariants as phase
 use Rattle.decoder.specs.declared.report.Met.{Met}
 use Rattle.decoder.specs.declared.report.Met.TheVariants as met
 use Rattle.decoder.specs.declared.report.Report.{Report}
-use Rattle.replay.specs.Plays.{KeptBy, heard, held, met_from, output_left, scratch_left, size_in}
-use Rattle.replay.specs.declared.call.Answer.{Answer}
+use Rattle.replay.specs.Plays.{heard, held, met_from, output_left, scratch_left, size_in}
 use Rattle.replay.specs.declared.call.Answer.TheVariants as answer
-use Rattle.replay.specs.declared.call.Payload.{Payload}
+use Rattle.replay.specs.declared.payload.Payload.{Payload}
 use Rattle.replay.proofs.Parts.{written-front, kept-front}
 
 -- Advance
@@ -27,8 +26,8 @@ met-back word met.NoneLeft = refl
 met-back word met.GivenUp = refl
 met-back word met.Paused = refl
 
-pub advance-heard : (word : List Bool) (m : Met) (r : Report) (a : search.Answer) → search.Advanced (met_of word m) (figures_of r) ≡ a → answer.Advanced m r ≡ heard a
-advance-heard word m r a e = ap (λ x. answer.Advanced x r) (met-back word m) ∙ ap heard e
+pub advance-heard : (word : List Bool) (m : Met) (r : Report) (a : search.Answer) → search.Advanced (met_of word m) (figures_of r) ≡ a → Ok (answer.Advanced m r) ≡ heard a
+advance-heard word m r a e = ap (λ x. Ok (answer.Advanced x r)) (met-back word m) ∙ ap heard e
 
 abbrev is_none : Option Refusal → Type 0
 is_none None = Unit {0}
@@ -60,8 +59,8 @@ scratch-whole d (search.Payload bits) n xs ys left size = kept-front n xs ys lef
 
 -- Word
 
-pub word-heard : (bits : List Bool) (a : search.Answer) (p : Payload) (bytes : List ℕ) → search.Payload bits ≡ a → p ≡ held bytes → bytes ≡ map byte_of bits → answer.Payload p ≡ heard a
-word-heard bits a p bytes e copied written = ap answer.Payload (copied ∙ ap held written) ∙ ap heard e
+pub word-heard : (bits : List Bool) (a : search.Answer) (p : Payload) (bytes : List ℕ) → search.Payload bits ≡ a → p ≡ held bytes → bytes ≡ map byte_of bits → Ok (answer.Payload p) ≡ heard a
+word-heard bits a p bytes e copied written = ap (λ x. Ok (answer.Payload x)) (copied ∙ ap held written) ∙ ap heard e
 
 pub word-written :
     (d : search.Decoder Contents) (bits : List Bool) (a : search.Answer) (before after : List ℕ) → search.Payload bits ≡ a → after ≡ map byte_of bits → length after ≡ length before
@@ -108,14 +107,10 @@ advance-spares (search.Busy l) b n xs = advance-answers (search.Busy l) l l.phas
 
 -- Refusals
 
-pub kept_same : {D : Type 0} (r : Answer) (x : D) → KeptBy r x x
-kept_same (answer.Refused e) x = refl
-kept_same (answer.Reported f) x = tt
-kept_same (answer.Advanced m f) x = tt
-kept_same (answer.Payload p) x = tt
+pub kept_same : {X D : Type 0} (r : Result X Refusal) (x : D) → KeptIfRefused r x x
+kept_same (Ok a) x = tt
+kept_same (Err e) x = refl
 
-pub kept_whole : {X : Type 0} (r : Answer) (n : ℕ) (xs ys : List X) → KeptBy r (take n xs) ys → KeptBy r xs (ys ++ drop n xs)
-kept_whole (answer.Refused e) n xs ys h = kept-front n xs ys h
-kept_whole (answer.Reported f) n xs ys h = tt
-kept_whole (answer.Advanced m f) n xs ys h = tt
-kept_whole (answer.Payload p) n xs ys h = tt
+pub kept_whole : {X Y : Type 0} (r : Result Y Refusal) (n : ℕ) (xs ys : List X) → KeptIfRefused r (take n xs) ys → KeptIfRefused r xs (ys ++ drop n xs)
+kept_whole (Ok a) n xs ys h = tt
+kept_whole (Err e) n xs ys h = kept-front n xs ys h

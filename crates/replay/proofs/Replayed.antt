@@ -1,7 +1,8 @@
 -- A run of calls, one call at a time, and the promise over all of it. Assumes nothing.
-use Rattle.std.proofs.Common.{◌≡◌, ℕ, zero, suc, ◌+◌, ◌<◌, ◌≤◌, List, [], ◌∷◌, ◌++◌, map, length, get_or, take, drop, ℤ, pos, sym, refl, ap, ◌∙◌, subst, ap₂}
+use Rattle.std.proofs.Common.{◌≡◌, ℕ, zero, suc, ◌+◌, ◌<◌, ◌≤◌, List, [], ◌∷◌, ◌++◌, map, length, get_or, take, drop, ℤ, pos, Result, sym, refl, ap, ◌∙◌, subst, ap₂}
 use Rattle.std.proofs.lemmas.List.{append_assoc, append-nil, drop-map, drop_more, drop_all, length-map}
-use Rattle.outer.specs.declared.check.Judge as judge
+use Rattle.base.specs.declared.refusal.Refusal.{Refusal}
+use Rattle.outer.specs.declared.check.Judge as Judge
 use Rattle.search.specs.Calls as search
 use Rattle.search.specs.Records.{LawfulCall, LawfulCalls, recorded, after}
 use Rattle.search.specs.Search.{called}
@@ -18,13 +19,13 @@ use Rattle.replay.specs.declared.call.Call.{Call}
 use Rattle.replay.specs.declared.call.Call.TheVariants as call
 
 -- what is still to be played from here leads to what all of it leads to from the start
-pub record Remains (start here : search.Decoder Contents) (all rest : List search.Call) (answers : List Answer) (scratch₀ scratch : List ℤ) (output₀ output : List ℕ) : Type 0 where
+pub record Remains (start here : search.Decoder Contents) (all rest : List search.Call) (answers : List (Result Answer Refusal)) (scratch₀ scratch : List ℤ) (output₀ output : List ℕ) : Type 0 where
   pub answers_of : answers_in (recorded ruled start all) ≡ answers ++ answers_in (recorded ruled here rest)
   pub decoder : after ruled start all ≡ after ruled here rest
   pub scratch-of : left_after scratch_left start all scratch₀ ≡ left_after scratch_left here rest scratch
   pub output-of : left_after output_left start all output₀ ≡ left_after output_left here rest output
 
-pub remains-all : (d : search.Decoder Contents) (calls : List search.Call) (answers : List Answer) (scratch : List ℤ) (output : List ℕ) → answers ≡ [] → Remains d d calls calls answers scratch scratch output output
+pub remains-all : (d : search.Decoder Contents) (calls : List search.Call) (answers : List (Result Answer Refusal)) (scratch : List ℤ) (output : List ℕ) → answers ≡ [] → Remains d d calls calls answers scratch scratch output output
 remains-all d calls answers scratch output none = record {
   answers_of = sym (ap (λ xs. xs ++ answers_in (recorded ruled d calls)) none);
   decoder = refl;
@@ -32,7 +33,7 @@ remains-all d calls answers scratch output none = record {
   output-of = refl;
 }
 
-module _ (start here next : search.Decoder Contents) (all rest later : List search.Call) (c : search.Call) (answers answers' : List Answer) (a : Answer) (scratch₀ scratch scratch' : List ℤ) (output₀ output output' : List ℕ) where
+module _ (start here next : search.Decoder Contents) (all rest later : List search.Call) (c : search.Call) (answers answers' : List (Result Answer Refusal)) (a : Result Answer Refusal) (scratch₀ scratch scratch' : List ℤ) (output₀ output output' : List ℕ) where
   pub remains-less :
       Remains start here all rest answers scratch₀ scratch output₀ output → rest ≡ c ∷ later
       → next ≡ (called ruled here c).0 → a ≡ heard (called ruled here c).1 → answers' ≡ answers ++ (a ∷ [])
@@ -49,14 +50,14 @@ module _ (start here next : search.Decoder Contents) (all rest later : List sear
   }
 
 -- all is played
-pub record Ends (start here : search.Decoder Contents) (all : List search.Call) (answers : List Answer) (scratch₀ scratch : List ℤ) (output₀ output : List ℕ) : Type 0 where
+pub record Ends (start here : search.Decoder Contents) (all : List search.Call) (answers : List (Result Answer Refusal)) (scratch₀ scratch : List ℤ) (output₀ output : List ℕ) : Type 0 where
   pub answers_of : answers ≡ answers_in (recorded ruled start all)
   pub decoder : here ≡ after ruled start all
   pub scratch-of : scratch ≡ left_after scratch_left start all scratch₀
   pub output-of : output ≡ left_after output_left start all output₀
 
 pub remains-none :
-    (start here : search.Decoder Contents) (all rest : List search.Call) (answers : List Answer) (scratch₀ scratch : List ℤ) (output₀ output : List ℕ)
+    (start here : search.Decoder Contents) (all rest : List search.Call) (answers : List (Result Answer Refusal)) (scratch₀ scratch : List ℤ) (output₀ output : List ℕ)
     → Remains start here all rest answers scratch₀ scratch output₀ output → rest ≡ [] → Ends start here all answers scratch₀ scratch output₀ output
 remains-none start here all rest answers scratch₀ scratch output₀ output r none = record {
   answers_of = sym (r.answers_of ∙ ap (λ cs. answers ++ answers_in (recorded ruled here cs)) none ∙ append-nil answers);
@@ -72,7 +73,7 @@ pub no_call : (f : Call → search.Call) (calls : List Call) (i : ℕ) → lengt
 no_call f calls i h = drop_all i (map f calls) (subst (λ n. n ≤ i) (sym (length-map calls f)) h)
 
 pub same-call :
-    {C : Type 0} (judge : judge.Ghosts C) (check check' : C) (values : List ℤ) (scratch scratch' output output' : ℕ) (c : Call)
+    {C : Type 0} (judge : Judge.Ghosts C) (check check' : C) (values : List ℤ) (scratch scratch' output output' : ℕ) (c : Call)
     → check ≡ check' → scratch ≡ scratch' → output ≡ output'
     → call_of judge check values scratch output c ≡ call_of judge check' values scratch' output' c
 same-call judge check check' values scratch scratch' output output' c p q r =
@@ -80,7 +81,7 @@ same-call judge check check' values scratch scratch' output output' c p q r =
 
 -- The promise
 
-module _ {C : Type 0} (judge : judge.Ghosts C) (check : C) (values : List ℤ) (scratch output : ℕ) (hopeful : Hopeful (meaning_of judge check)) where
+module _ {C : Type 0} (judge : Judge.Ghosts C) (check : C) (values : List ℤ) (scratch output : ℕ) (hopeful : Hopeful (meaning_of judge check)) where
   lawful-call : (c : Call) → LawfulCall (call_of judge check values scratch output c)
   lawful-call call.Report = tt
   lawful-call call.Strike = tt

@@ -1,8 +1,9 @@
 -- A call as the search's, what the search answers as the program's, and what a call leaves in the buffers it is lent.
 -- Assumes nothing.
-use Rattle.std.specs.Prelude.{◌≡◌, ℕ, ◌-◌, ◌*◌, min, List, ◌++◌, map, length, take, drop, replicate, ℤ, pos}
+use Rattle.std.specs.Prelude.{ℕ, ◌-◌, ◌*◌, min, List, ◌++◌, map, length, take, drop, replicate, ℤ, pos, Ok, Err, Result}
+use Rattle.base.specs.declared.refusal.Refusal.{Refusal}
 use Rattle.code.specs.Sending.{byte_of}
-use Rattle.outer.specs.declared.check.Judge as judge
+use Rattle.outer.specs.declared.check.Judge as Judge
 use Rattle.search.specs.Calls as search
 use Rattle.search.specs.Stores.{Contents}
 use Rattle.decoder.specs.Answers.{request_of}
@@ -13,10 +14,10 @@ use Rattle.replay.specs.declared.call.Call.{Call}
 use Rattle.replay.specs.declared.call.Call.TheVariants as call
 use Rattle.replay.specs.declared.call.Answer.{Answer}
 use Rattle.replay.specs.declared.call.Answer.TheVariants as answer
-use Rattle.replay.specs.declared.call.Payload.{Payload}
+use Rattle.replay.specs.declared.payload.Payload.{Payload}
 
 -- a call of a decoder over a check, where there are these soft values, and so many words of scratch and bytes of output
-abbrev pub call_of : {C : Type 0} → judge.Ghosts C → C → (values : List ℤ) (scratch output : ℕ) → Call → search.Call
+abbrev pub call_of : {C : Type 0} → Judge.Ghosts C → C → (values : List ℤ) (scratch output : ℕ) → Call → search.Call
 call_of judge check values scratch output call.Report = search.Report
 call_of judge check values scratch output call.Strike = search.Strike
 call_of judge check values scratch output (call.Load plan at count limits) = search.Load (request_of judge check plan (take count (drop at values)) limits)
@@ -37,11 +38,14 @@ met_from search.Paused = met.Paused
 abbrev pub held : List ℕ → Payload
 held bytes = record { bits = take (min (length bytes) 512) bytes ++ replicate (512 - min (length bytes) 512) 0; len = min (length bytes) 512 }
 
-abbrev pub heard : search.Answer → Answer
-heard (search.Refused e) = answer.Refused e
-heard (search.Reported f) = answer.Reported (report_from f)
-heard (search.Advanced met f) = answer.Advanced (met_from met) (report_from f)
-heard (search.Payload bits) = answer.Payload (held (map byte_of bits))
+abbrev pub bytes_in : Payload → List ℕ
+bytes_in payload = take payload.len payload.bits
+
+abbrev pub heard : search.Answer → Result Answer Refusal
+heard (search.Refused e) = Err e
+heard (search.Reported f) = Ok (answer.Reported (report_from f))
+heard (search.Advanced met f) = Ok (answer.Advanced (met_from met) (report_from f))
+heard (search.Payload bits) = Ok (answer.Payload (held (map byte_of bits)))
 
 -- N of the loaded block
 abbrev pub size_in : search.Decoder Contents → ℕ
@@ -61,10 +65,3 @@ output_left d (search.Refused e) before = before
 output_left d (search.Reported f) before = before
 output_left d (search.Advanced met f) before = before
 output_left d (search.Payload bits) before = map byte_of bits ++ drop (length bits) before
-
--- a refusal leaves everything as it was
-abbrev pub KeptBy : {D : Type 0} → Answer → D → D → Type 0
-KeptBy (answer.Refused e) before after = after ≡ before
-KeptBy (answer.Reported r) before after = Unit {0}
-KeptBy (answer.Advanced met r) before after = Unit {0}
-KeptBy (answer.Payload p) before after = Unit {0}

@@ -1,18 +1,19 @@
 -- A run of calls from a decoder on: what is recorded, what the buffers hold after it and what is promised. Assumes nothing.
 use Rattle.std.specs.Prelude.{ℕ, List, [], ◌∷◌, map, take, ℤ, Ok, Err, Result}
-use Rattle.outer.specs.declared.check.Judge as judge
+use Rattle.base.specs.declared.refusal.Refusal.{Refusal}
+use Rattle.outer.specs.declared.check.Judge as Judge
 use Rattle.search.specs.Calls as search
 use Rattle.search.specs.Promise.{Promise}
 use Rattle.search.specs.Records.{Entry, recorded, after}
 use Rattle.search.specs.Search.{called}
 use Rattle.search.specs.Stores.{Contents, ruled}
-use Rattle.store.specs.declared.store.Store as store
+use Rattle.store.specs.declared.store.Store as Store
 use Rattle.replay.specs.Plays.{call_of, heard}
-use Rattle.decoder.specs.States.{meanings, unloaded}
+use Rattle.decoder.specs.States.{unloaded}
 use Rattle.replay.specs.declared.call.Call.{Call}
 use Rattle.replay.specs.declared.call.Answer.{Answer}
 
-abbrev pub calls_of : {C : Type 0} → judge.Ghosts C → C → (values : List ℤ) (scratch output : ℕ) → List Call → List search.Call
+abbrev pub calls_of : {C : Type 0} → Judge.Ghosts C → C → (values : List ℤ) (scratch output : ℕ) → List Call → List search.Call
 calls_of judge check values scratch output calls = map (call_of judge check values scratch output) calls
 
 -- Where a run starts, and its calls as the search's.
@@ -21,14 +22,14 @@ pub record Run : Type 0 where
   pub calls : List search.Call
 
 -- from a new decoder on, over a store that may keep anything
-abbrev pub run_of : {S C : Type 0} → store.Ghosts S → judge.Ghosts C → S → C → (values : List ℤ) (scratch output : ℕ) → List Call → Run
-run_of members judge store check values scratch output calls = record { start = unloaded (meanings members judge) store; calls = calls_of judge check values scratch output calls }
+abbrev pub run_of : {S C : Type 0} → Store.Ghosts S → Judge.Ghosts C → S → C → (values : List ℤ) (scratch output : ℕ) → List Call → Run
+run_of members judge store check values scratch output calls = record { start = unloaded members store; calls = calls_of judge check values scratch output calls }
 
 -- the answers of a record, as the program tells them
-abbrev pub answers_in : List Entry → List Answer
+abbrev pub answers_in : List Entry → List (Result Answer Refusal)
 answers_in entries = map (λ e. heard e.answer) entries
 
-abbrev pub answers_of : Run → List Answer
+abbrev pub answers_of : Run → List (Result Answer Refusal)
 answers_of run = answers_in (recorded ruled run.start run.calls)
 
 -- the decoder after the last call

@@ -1,5 +1,5 @@
 // The calls of a decoder as values, and what they answer. Assumes nothing.
-use base::Refusal;
+use crate::payload::Payload;
 use decoder::{Limits, Met, Report};
 use plan::Plan;
 
@@ -24,20 +24,13 @@ pub enum Call {
     },
 }
 
+// What a call answers that is granted.
 #[derive(Clone, Copy)]
 pub enum Answer {
-    Refused(Refusal),
     // of load, strike and report
     Reported(Report),
     // of advance
     Advanced(Met, Report),
     // of word
     Payload(Payload),
-}
-
-// A payload, a byte for each bit; beyond its length every byte is 0.
-#[derive(Clone, Copy)]
-pub struct Payload {
-    pub bits: [u8; 512],
-    pub len: usize,
 }

@@ -2,9 +2,11 @@
 #![tactic(auto)]
 
 mod call;
+mod payload;
 mod plays;
 mod replays;
 
-pub use call::{Answer, Call, Payload};
+pub use call::{Answer, Call};
+pub use payload::Payload;
 pub use plays::play;
 pub use replays::replay;

@@ -1,5 +1,6 @@
 // The calls that lines name. Assumes nothing.
-use crate::numbers::{byte, length, short, signed, word};
+use crate::numbers::{length, number, signed};
+use crate::refused::NoCall;
 use base::Refusal;
 use block::CheckCode;
 use decoder::Limits;
@@ -7,42 +8,44 @@ use plan::{Plan, Request};
 use replay::Call;
 
 // A soft value, and how often it comes.
-pub fn soft(text: &str) -> Option<(i32, usize)> {
-    match text.split_once('x') {
-        Some((value, count)) => Some((signed(value)?, length(count)?)),
-        None => Some((signed(text)?, 1)),
-    }
+pub fn soft(text: &str) -> Result<(i32, usize), NoCall> {
+    let (value, count) = text.split_once('x').unwrap_or((text, "1"));
+    Ok((signed(value)?, length(count)?))
 }
 
 // How many soft values some words come to.
-fn soft_count(words: &[&str]) -> Option<usize> {
+fn soft_count(words: &[&str]) -> Result<usize, NoCall> {
     let mut sum = 0usize;
     for each in words {
         let (_, count) = soft(each)?;
-        sum = sum.checked_add(count)?;
+        sum = sum.checked_add(count).ok_or(NoCall::Malformed)?;
     }
-    Some(sum)
+    Ok(sum)
 }
 
-fn request_of(words: [&str; 6]) -> Option<Request> {
+pub fn check_of(text: &str) -> Result<CheckCode, NoCall> {
+    CheckCode::try_from(number::<u8>(text)?).map_err(|_| NoCall::Malformed)
+}
+
+fn request_of(words: [&str; 6]) -> Result<Request, NoCall> {
     let [check, n, payload, sent, low, parity] = words;
-    let check = CheckCode::try_from(byte(check)?).ok()?;
-    Some(Request {
-        n: byte(n)?,
-        payload: short(payload)?,
-        sent: short(sent)?,
-        low: short(low)?,
-        parity: byte(parity)?,
+    let check = check_of(check)?;
+    Ok(Request {
+        n: number(n)?,
+        payload: number(payload)?,
+        sent: number(sent)?,
+        low: number(low)?,
+        parity: number(parity)?,
         check_bits: check.bits(),
         longest: check.longest(),
     })
 }
 
-fn limits_of(capacity: &str, failures: &str, steps: &str) -> Option<Limits> {
-    Some(Limits {
-        capacity: usize::from(byte(capacity)?),
-        failures: u32::from(short(failures)?),
-        steps: word(steps)?,
+fn limits_of(capacity: &str, failures: &str, steps: &str) -> Result<Limits, NoCall> {
+    Ok(Limits {
+        capacity: usize::from(number::<u8>(capacity)?),
+        failures: u32::from(number::<u16>(failures)?),
+        steps: number(steps)?,
     })
 }
 
@@ -52,64 +55,66 @@ fn plan_of(request: &Request) -> Result<Plan, Refusal> {
     Ok(plan)
 }
 
-// The words of a line that loads.
+// A call, and the words of the soft values that it loads.
 #[derive(Clone, Copy)]
-pub struct Load<'a> {
-    request: Request,
-    limits: Limits,
-    count: usize,
+pub struct Asked<'a> {
+    pub call: Call,
     pub soft: &'a [&'a str],
 }
 
-impl Load<'_> {
-    // What the words after `load` say; absent where they are malformed.
-    pub fn read<'a>(words: &'a [&'a str]) -> Option<Load<'a>> {
-        let [
-            check,
-            n,
-            payload,
-            sent,
-            low,
-            parity,
-            capacity,
-            failures,
-            steps,
-            soft @ ..,
-        ] = words
-        else {
-            return None;
-        };
-        Some(Load {
-            request: request_of([check, n, payload, sent, low, parity])?,
-            limits: limits_of(capacity, failures, steps)?,
-            count: soft_count(soft)?,
-            soft,
-        })
-    }
+// The words after `load`. The soft values begin at a place.
+fn load_of<'a>(words: &'a [&'a str], at: usize) -> Result<Asked<'a>, NoCall> {
+    let [
+        check,
+        n,
+        payload,
+        sent,
+        low,
+        parity,
+        capacity,
+        failures,
+        steps,
+        soft @ ..,
+    ] = words
+    else {
+        return Err(NoCall::Malformed);
+    };
+    let request = request_of([check, n, payload, sent, low, parity])?;
+    let limits = limits_of(capacity, failures, steps)?;
+    let count = soft_count(soft)?;
+    let plan = plan_of(&request)?;
+    let call = Call::Load {
+        plan,
+        at,
+        count,
+        limits,
+    };
+    Ok(Asked { call, soft })
+}
 
-    // The call, its soft values beginning at a place; or why there is no such plan.
-    pub fn call(&self, at: usize) -> Result<Call, Refusal> {
-        Ok(Call::Load {
-            plan: plan_of(&self.request)?,
-            at,
-            count: self.count,
-            limits: self.limits,
-        })
+// Any other call.
+fn call_of(words: &[&str]) -> Result<Call, NoCall> {
+    match words {
+        ["advance", budget, scratch] => Ok(Call::Advance {
+            budget: number(budget)?,
+            scratch: length(scratch)?,
+        }),
+        ["strike"] => Ok(Call::Strike),
+        ["word", output] => Ok(Call::Word {
+            output: length(output)?,
+        }),
+        ["report"] => Ok(Call::Report),
+        _ => Err(NoCall::Malformed),
     }
 }
 
-// Any other call; absent where the words name none.
-pub fn call_of(words: &[&str]) -> Option<Call> {
+// What the words of a line ask for, where the soft values of a load begin at a place.
+pub fn asked_by<'a>(words: &'a [&'a str], at: usize) -> Result<Asked<'a>, NoCall> {
     match words {
-        ["advance", budget, scratch] => Some(Call::Advance {
-            budget: word(budget)?,
-            scratch: length(scratch)?,
+        ["load", rest @ ..] => load_of(rest, at),
+        _ => Ok(Asked {
+            call: call_of(words)?,
+            soft: &[],
         }),
-        ["strike"] => Some(Call::Strike),
-        ["word", output] => Some(Call::Word {
-            output: length(output)?,
-        }),
-        ["report"] => Some(Call::Report),
-        _ => None,
     }
 }

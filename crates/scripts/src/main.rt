@@ -5,6 +5,7 @@
 mod line;
 mod numbers;
 mod player;
+mod refused;
 mod script;
 mod setup;
 mod text;
@@ -15,12 +16,8 @@ use std::io;
 
 // The lines before the next script.
 fn of_script<'a>(lines: &'a [&'a str]) -> &'a [&'a str] {
-    for (k, line) in lines.iter().enumerate() {
-        if Setup::read(line).is_some() {
-            return &lines[0..k];
-        }
-    }
-    lines
+    let end = lines.iter().position(|line| Setup::read(line).is_ok());
+    &lines[0..end.unwrap_or(lines.len())]
 }
 
 // Plays the scripts that the lines hold; what comes before the first is malformed.
@@ -28,14 +25,14 @@ fn play_all(rt: &HostRuntime, lines: &[&str]) -> io::Result<()> {
     let mut count = 0u64;
     for (k, line) in lines.iter().enumerate() {
         match Setup::read(line) {
-            Some(setup) => {
+            Ok(setup) => {
                 count = count.saturating_add(1);
                 println!(rt; "script {count}")?;
                 let rest = &lines[k + 1..lines.len()];
                 play_script(rt, setup, of_script(rest))?;
             }
-            None if count == 0 => println!(rt; "malformed")?,
-            None => {}
+            Err(reason) if count == 0 => println!(rt; "{reason}")?,
+            Err(_) => {}
         }
     }
     Ok(())

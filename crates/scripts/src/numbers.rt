@@ -1,41 +1,35 @@
-// The numbers of a script: decimal digits alone, each kind up to its width. Assumes nothing.
+// The numbers of a script: decimal digits alone, each up to the width of its type. Assumes nothing.
+use crate::refused::NoCall;
 
-fn number(text: &str, most: u32) -> Option<u32> {
-    for b in text.bytes() {
-        if !b.is_ascii_digit() {
-            return None;
-        }
+// The longest buffer, and the most times that a soft value comes.
+const LONGEST: u16 = 4096;
+
+// An empty text is no number.
+pub fn number<T: TryFrom<u64>>(text: &str) -> Result<T, NoCall>
+where
+    T::Error: Drop,
+{
+    if !text.bytes().all(|b| b.is_ascii_digit()) {
+        return Err(NoCall::Malformed);
     }
-    // an empty text is no number
-    let n = text.parse::<u64>().ok()?;
-    if n <= u64::from(most) {
-        u32::try_from(n).ok()
-    } else {
-        None
-    }
-}
-
-pub fn byte(text: &str) -> Option<u8> {
-    u8::try_from(number(text, 255)?).ok()
-}
-
-pub fn short(text: &str) -> Option<u16> {
-    u16::try_from(number(text, 65_535)?).ok()
-}
-
-pub fn word(text: &str) -> Option<u32> {
-    number(text, u32::MAX)
+    let n = text.parse::<u64>().map_err(|_| NoCall::Malformed)?;
+    T::try_from(n).map_err(|_| NoCall::Malformed)
 }
 
 // The length of a buffer, or how often a soft value comes.
-pub fn length(text: &str) -> Option<usize> {
-    usize::try_from(number(text, 4_096)?).ok()
+pub fn length(text: &str) -> Result<usize, NoCall> {
+    let n = number::<u16>(text)?;
+    if n > LONGEST {
+        return Err(NoCall::Malformed);
+    }
+    Ok(usize::from(n))
 }
 
 // Digits with at most a minus before them.
-pub fn signed(text: &str) -> Option<i32> {
-    match text.strip_prefix('-') {
-        Some(digits) => i32::try_from(0i64.checked_sub(i64::from(word(digits)?))?).ok(),
-        None => i32::try_from(word(text)?).ok(),
-    }
+pub fn signed(text: &str) -> Result<i32, NoCall> {
+    let value = match text.strip_prefix('-') {
+        Some(digits) => -i64::from(number::<u32>(digits)?),
+        None => i64::from(number::<u32>(text)?),
+    };
+    i32::try_from(value).map_err(|_| NoCall::Malformed)
 }

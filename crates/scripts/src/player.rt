@@ -1,7 +1,8 @@
 // Plays a script on a decoder over its store and its check, and prints what comes of it. Assumes nothing.
-use crate::script::{Asked, Script};
+use crate::script::Script;
 use crate::setup::Setup;
-use crate::text::{answer_text, kept_text};
+use crate::text::{KeptList, Told};
+use base::Refusal;
 use block::{CheckCode, StoreCode};
 use decoder::Decoder;
 use heap::Heap;
@@ -19,8 +20,7 @@ fn print_kept<S: Store + Copy, C: Judge>(
     decoder: &Decoder<S, C>,
 ) -> io::Result<()> {
     if decoder.report().is_ok() {
-        let kept = kept_text(rt.alloc(), decoder)?;
-        println!(rt; "{kept}")?;
+        println!(rt; "{}", KeptList(decoder))?;
     }
     Ok(())
 }
@@ -28,13 +28,15 @@ fn print_kept<S: Store + Copy, C: Judge>(
 // Prints what a call answered, makes it on a second decoder, and prints what that then keeps.
 fn print_call<S: Store + Copy, C: Judge>(
     rt: &HostRuntime,
-    answer: &Answer,
+    answer: &Result<Answer, Refusal>,
     decoder: &mut Decoder<S, C>,
     call: Call,
     values: &[i32],
 ) -> io::Result<()> {
-    let text = answer_text(rt.alloc(), answer)?;
-    println!(rt; "{text}")?;
+    match answer {
+        Ok(answer) => println!(rt; "{}", Told(answer))?,
+        Err(refusal) => println!(rt; "fault {refusal}")?,
+    }
     let mut scratch = [0; LONGEST];
     let mut output = [0; LONGEST];
     let _ = play(decoder, call, values, &mut scratch, &mut output);
@@ -46,15 +48,15 @@ fn print_call<S: Store + Copy, C: Judge>(
 fn print_played<S: Store + Copy, C: Judge>(
     rt: &HostRuntime,
     script: &Script,
-    answers: &[Answer],
+    answers: &[Result<Answer, Refusal>],
     decoder: &mut Decoder<S, C>,
 ) -> io::Result<()> {
-    for asked in script.asked.as_slice() {
-        match asked {
-            Asked::Malformed => println!(rt; "malformed")?,
-            Asked::NoPlan(refusal) => println!(rt; "fault {refusal}")?,
-            Asked::Call(k) => {
-                if let (Some(call), Some(answer)) = (script.calls.get(*k), answers.get(*k)) {
+    let mut answers = answers.iter();
+    for line in &script.lines {
+        match line {
+            Err(reason) => println!(rt; "{reason}")?,
+            Ok(call) => {
+                if let Some(answer) = answers.next() {
                     print_call(rt, answer, decoder, *call, script.values.as_slice())?;
                 }
             }
@@ -71,11 +73,12 @@ fn play_over<S: Store + Copy, C: Judge + Copy>(
 ) -> io::Result<()> {
     let mut scratch = [0; LONGEST];
     let mut output = [0; LONGEST];
+    let calls = script.calls(rt.alloc())?;
     let (_, answers) = replay(
         rt.alloc(),
         store,
         check,
-        script.calls.as_slice(),
+        calls.as_slice(),
         script.values.as_slice(),
         &mut scratch,
         &mut output,

@@ -1,23 +1,13 @@
 // The lines of one script as the calls of a decoder. Assumes nothing.
-use crate::line::{Load, call_of, soft};
-use base::Refusal;
+use crate::line::{asked_by, soft};
+use crate::refused::NoCall;
 use replay::Call;
 use std::alloc::{AllocError, Global};
 
-// What a line comes to.
-#[derive(Clone, Copy)]
-pub enum Asked {
-    // the call of this index
-    Call(usize),
-    // a load whose plan is refused: no call
-    NoPlan(Refusal),
-    Malformed,
-}
-
 #[derive(Drop)]
 pub struct Script {
-    pub asked: Vec<Asked>,
-    pub calls: Vec<Call>,
+    // what each line comes to
+    pub lines: Vec<Result<Call, NoCall>>,
     // the soft values of all loads
     pub values: Vec<i32>,
 }
@@ -25,53 +15,36 @@ pub struct Script {
 impl Script {
     pub fn read(heap: Global, lines: &[&str]) -> Result<Script, AllocError> {
         let mut script = Script {
-            asked: Vec::new(heap),
-            calls: Vec::new(heap),
+            lines: Vec::new(heap),
             values: Vec::new(heap),
         };
         for line in lines {
             let words: Vec<&str> = line.split(' ').collect(heap)?;
-            let asked = script.ask(words.as_slice())?;
-            script.asked.push(asked)?;
+            let call = script.ask(words.as_slice())?;
+            script.lines.push(call)?;
         }
         Ok(script)
     }
 
-    fn ask(&mut self, words: &[&str]) -> Result<Asked, AllocError> {
-        if let ["load", rest @ ..] = words {
-            return match Load::read(rest) {
-                Some(load) => self.ask_load(load),
-                None => Ok(Asked::Malformed),
-            };
-        }
-        match call_of(words) {
-            Some(call) => self.ask_call(call),
-            None => Ok(Asked::Malformed),
-        }
+    // The calls alone.
+    pub fn calls(&self, heap: Global) -> Result<Vec<Call>, AllocError> {
+        self.lines.iter().filter_map(|line| line.ok()).collect(heap)
     }
 
-    fn ask_load(&mut self, load: Load<'_>) -> Result<Asked, AllocError> {
-        match load.call(self.values.len()) {
-            Ok(call) => {
-                self.add_values(load.soft)?;
-                self.ask_call(call)
+    fn ask(&mut self, words: &[&str]) -> Result<Result<Call, NoCall>, AllocError> {
+        match asked_by(words, self.values.len()) {
+            Ok(asked) => {
+                self.add_values(asked.soft)?;
+                Ok(Ok(asked.call))
             }
-            Err(refusal) => Ok(Asked::NoPlan(refusal)),
+            Err(reason) => Ok(Err(reason)),
         }
-    }
-
-    fn ask_call(&mut self, call: Call) -> Result<Asked, AllocError> {
-        let index = self.calls.len();
-        self.calls.push(call)?;
-        Ok(Asked::Call(index))
     }
 
     fn add_values(&mut self, words: &[&str]) -> Result<(), AllocError> {
-        for each in words {
-            if let Some((value, count)) = soft(each) {
-                for _ in 0..count {
-                    self.values.push(value)?;
-                }
+        for (value, count) in words.iter().filter_map(|each| soft(each).ok()) {
+            for _ in 0..count {
+                self.values.push(value)?;
             }
         }
         Ok(())

@@ -1,5 +1,7 @@
 // The line that begins a script: a store, perhaps used before, and a check. Assumes nothing.
-use crate::numbers::{byte, short, word};
+use crate::line::check_of;
+use crate::numbers::number;
+use crate::refused::NoCall;
 use block::{CheckCode, StoreCode};
 use store::{Candidate, Store};
 
@@ -19,60 +21,61 @@ struct Usage<'a> {
     candidates: Option<&'a str>,
 }
 
-fn store_of(name: &str) -> Option<StoreCode> {
+fn store_of(name: &str) -> Result<StoreCode, NoCall> {
     match name {
-        "table" => Some(StoreCode::Table),
-        "heap" => Some(StoreCode::Heap),
-        _ => None,
+        "table" => Ok(StoreCode::Table),
+        "heap" => Ok(StoreCode::Heap),
+        _ => Err(NoCall::Malformed),
     }
 }
 
-fn candidate(text: &str) -> Option<Candidate> {
-    let (metric, rest) = text.split_once(':')?;
-    let (length, rest) = rest.split_once(':')?;
-    let (serial, row) = rest.split_once(':')?;
-    Some(Candidate {
-        metric: word(metric)?,
-        length: short(length)?,
-        serial: word(serial)?,
-        row: byte(row)?,
+// The parts of a text before and after the first of a mark.
+fn parts(text: &str, mark: char) -> Result<(&str, &str), NoCall> {
+    text.split_once(mark).ok_or(NoCall::Malformed)
+}
+
+fn candidate(text: &str) -> Result<Candidate, NoCall> {
+    let (metric, rest) = parts(text, ':')?;
+    let (length, rest) = parts(rest, ':')?;
+    let (serial, row) = parts(rest, ':')?;
+    Ok(Candidate {
+        metric: number(metric)?,
+        length: number(length)?,
+        serial: number(serial)?,
+        row: number(row)?,
     })
 }
 
 // A text, and what follows its first space.
 fn first_part(text: &str) -> (&str, Option<&str>) {
-    match text.split_once(' ') {
-        Some((first, rest)) => (first, Some(rest)),
-        None => (text, None),
-    }
+    text.split_once(' ')
+        .map_or((text, None), |(first, rest)| (first, Some(rest)))
 }
 
-fn usage_of(text: &str) -> Option<Usage<'_>> {
+fn usage_of(text: &str) -> Result<Usage<'_>, NoCall> {
     let (capacity, candidates) = first_part(text);
-    let capacity = byte(capacity)?;
+    let capacity = number(capacity)?;
     if let Some(list) = candidates {
         for each in list.split(' ') {
             candidate(each)?;
         }
     }
-    Some(Usage {
+    Ok(Usage {
         capacity,
         candidates,
     })
 }
 
 impl Setup<'_> {
-    // What a line sets up; absent where it begins no script.
-    pub fn read(line: &str) -> Option<Setup<'_>> {
-        let (store, rest) = line.strip_prefix("new ")?.split_once(' ')?;
+    // What a line sets up; an error where it begins no script.
+    pub fn read(line: &str) -> Result<Setup<'_>, NoCall> {
+        let rest = line.strip_prefix("new ").ok_or(NoCall::Malformed)?;
+        let (store, rest) = parts(rest, ' ')?;
         let store = store_of(store)?;
         let (check, rest) = first_part(rest);
-        let check = CheckCode::try_from(byte(check)?).ok()?;
-        let used = match rest {
-            Some(text) => Some(usage_of(text)?),
-            None => None,
-        };
-        Some(Setup { store, check, used })
+        let check = check_of(check)?;
+        let used = rest.map(usage_of).transpose()?;
+        Ok(Setup { store, check, used })
     }
 
     // Uses a new store as the line says.
@@ -84,10 +87,8 @@ impl Setup<'_> {
         let Some(list) = used.candidates else {
             return;
         };
-        for each in list.split(' ') {
-            if let Some(c) = candidate(each) {
-                store.put(c);
-            }
+        for c in list.split(' ').filter_map(|each| candidate(each).ok()) {
+            store.put(c);
         }
     }
 }

@@ -2,8 +2,7 @@
 use bits::Row;
 use decoder::{Decoder, Met, Report};
 use outer::Judge;
-use replay::{Answer, Payload};
-use std::alloc::{AllocError, Global};
+use replay::Answer;
 use std::fmt;
 use store::{Candidate, MOST, Store};
 
@@ -20,74 +19,107 @@ impl fmt::Display for Figure {
     }
 }
 
-fn report_text(heap: Global, name: &str, report: Report) -> Result<String, AllocError> {
-    let metric = Figure(report.shown);
-    let floor = Figure(report.floor);
-    let bound = Figure(report.bound);
-    let steps = report.steps;
-    let failures = report.failures;
-    format!(in heap; "{name} {metric} {floor} {bound} {steps} {failures}")
-}
+#[derive(Clone, Copy)]
+struct Figures(Report);
 
-fn met_name(met: Met) -> &'static str {
-    match met {
-        Met::Shown => "shown",
-        Met::NoneLeft => "none",
-        Met::GivenUp => "quit",
-        Met::Paused => "paused",
+impl fmt::Display for Figures {
+    fn fmt<W: fmt::Write>(&self, f: &mut fmt::Formatter<W>) -> fmt::Result {
+        let Report {
+            shown,
+            floor,
+            bound,
+            steps,
+            failures,
+        } = self.0;
+        let metric = Figure(shown);
+        let floor = Figure(floor);
+        let bound = Figure(bound);
+        write!(f, "{metric} {floor} {bound} {steps} {failures}")
     }
 }
 
-fn payload_text(heap: Global, payload: &Payload) -> Result<String, AllocError> {
-    let mut text = String::from_str(heap, "payload ")?;
-    for bit in payload.bits.iter().take(payload.len) {
-        text.push(digit(*bit != 0))?;
-    }
-    Ok(text)
-}
+// What an advance met.
+#[derive(Clone, Copy)]
+struct Outcome(Met);
 
-pub fn answer_text(heap: Global, answer: &Answer) -> Result<String, AllocError> {
-    match answer {
-        Answer::Refused(refusal) => format!(in heap; "fault {refusal}"),
-        Answer::Reported(report) => report_text(heap, "report", *report),
-        Answer::Advanced(met, report) => report_text(heap, met_name(*met), *report),
-        Answer::Payload(payload) => payload_text(heap, payload),
+impl fmt::Display for Outcome {
+    fn fmt<W: fmt::Write>(&self, f: &mut fmt::Formatter<W>) -> fmt::Result {
+        f.write_str(match self.0 {
+            Met::Shown => "shown",
+            Met::NoneLeft => "none",
+            Met::GivenUp => "quit",
+            Met::Paused => "paused",
+        })
     }
 }
 
-fn digit(bit: bool) -> char {
-    if bit { '1' } else { '0' }
+#[derive(Clone, Copy)]
+struct Digit(bool);
+
+impl fmt::Display for Digit {
+    fn fmt<W: fmt::Write>(&self, f: &mut fmt::Formatter<W>) -> fmt::Result {
+        f.write_char(if self.0 { '1' } else { '0' })
+    }
 }
 
-fn push_candidate(
-    heap: Global,
-    text: &mut String,
-    c: Candidate,
-    path: &Row,
-) -> Result<(), AllocError> {
-    let metric = c.metric;
-    let length = c.length;
-    let serial = c.serial;
-    let numbers = format!(in heap; " {metric}:{length}:{serial}:")?;
-    text.push_str(numbers.as_str())?;
-    for k in 0..usize::from(length) {
-        text.push(digit(path.get(k)))?;
+// What a granted call answers.
+#[derive(Clone, Copy)]
+pub struct Told<'a>(pub &'a Answer);
+
+impl fmt::Display for Told<'_> {
+    fn fmt<W: fmt::Write>(&self, f: &mut fmt::Formatter<W>) -> fmt::Result {
+        match self.0 {
+            Answer::Reported(report) => write!(f, "report {}", Figures(*report)),
+            Answer::Advanced(met, report) => write!(f, "{} {}", Outcome(*met), Figures(*report)),
+            Answer::Payload(payload) => {
+                write!(f, "payload ")?;
+                for bit in payload.as_slice() {
+                    write!(f, "{}", Digit(*bit != 0))?;
+                }
+                Ok(())
+            }
+        }
     }
-    Ok(())
 }
 
-// The kept candidates in order, each with its path; they are taken from a copy of the store.
-pub fn kept_text<S: Store + Copy, C: Judge>(
-    heap: Global,
-    decoder: &Decoder<S, C>,
-) -> Result<String, AllocError> {
-    let mut text = String::from_str(heap, "kept")?;
-    let mut store = *decoder.store();
-    for _ in 0..MOST {
-        let Some(c) = store.take() else {
-            break;
-        };
-        push_candidate(heap, &mut text, c, &decoder.path(c.row))?;
+// A candidate with the path in its row.
+#[derive(Clone, Copy)]
+struct Kept {
+    candidate: Candidate,
+    path: Row,
+}
+
+impl fmt::Display for Kept {
+    fn fmt<W: fmt::Write>(&self, f: &mut fmt::Formatter<W>) -> fmt::Result {
+        let Candidate {
+            metric,
+            length,
+            serial,
+            ..
+        } = self.candidate;
+        write!(f, "{metric}:{length}:{serial}:")?;
+        for k in 0..usize::from(length) {
+            write!(f, "{}", Digit(self.path.get(k)))?;
+        }
+        Ok(())
     }
-    Ok(text)
+}
+
+// The kept candidates of a decoder in order; they are taken from a copy of its store.
+#[derive(Clone, Copy)]
+pub struct KeptList<'a, S: Store + Copy, C: Judge>(pub &'a Decoder<S, C>);
+
+impl<S: Store + Copy, C: Judge> fmt::Display for KeptList<'_, S, C> {
+    fn fmt<W: fmt::Write>(&self, f: &mut fmt::Formatter<W>) -> fmt::Result {
+        write!(f, "kept")?;
+        let mut store = *self.0.store();
+        for _ in 0..MOST {
+            let Some(candidate) = store.take() else {
+                break;
+            };
+            let path = self.0.path(candidate.row);
+            write!(f, " {}", Kept { candidate, path })?;
+        }
+        Ok(())
+    }
 }

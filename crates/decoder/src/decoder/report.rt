@@ -3,7 +3,7 @@ ghost use Rattle.std.specs.Prelude.{◌≡◌};
 ghost use Rattle.bits.specs.Row.{row_bit};
 ghost use Rattle.cost.specs.Rows.{path_at};
 ghost use Rattle.decoder.specs.Answers.{reported};
-ghost use Rattle.decoder.specs.States.{meanings, model_of, unloaded};
+ghost use Rattle.decoder.specs.States.{model_of, unloaded};
 ghost use Rattle.decoder.specs.declared.phase.Phase.TheVariants.{Blank};
 ghost use Rattle.search.specs.Stores.{ruled};
 ghost use Rattle.search.specs.Calls as search;
@@ -24,7 +24,7 @@ use store::Store;
 impl<S: Store, C: Judge> Decoder<S, C> {
     // A decoder that never was loaded, whatever its store keeps.
     pub fn new(store: S, check: C) -> Decoder<S, C>
-        ensures model { model_of (meanings S.Store C.Judge) result.state ≡ unloaded (meanings S.Store C.Judge) store }
+        ensures model { model_of S.Store C.Judge result.state ≡ unloaded S.Store store }
         ensures phase { result.state.phase ≡ Blank }
         ensures store { result.state.store ≡ store }
         ensures check { result.state.check ≡ check }
@@ -57,7 +57,7 @@ impl<S: Store, C: Judge> Decoder<S, C> {
 
     // The figures since the load.
     pub fn report(&self) -> Result<Report, Refusal>
-        ensures answer { reported result ≡ (called ruled (model_of (meanings S.Store C.Judge) self.now.state) search.Report).1 }
+        ensures answer { reported result ≡ (called ruled (model_of S.Store C.Judge self.now.state) search.Report).1 }
     {
         self.state.phase.admits(Phased::Report)?;
         Ok(self.state.figures())

@@ -5,7 +5,7 @@ ghost use Rattle.decoder.specs.Answers.{KeptIfRefused, output_after, payload_in,
 ghost use Rattle.decoder.specs.Blocks.{plan_in};
 ghost use Rattle.base.specs.declared.refusal.Phased.TheVariants as call;
 ghost use Rattle.decoder.specs.Phases.{allows};
-ghost use Rattle.decoder.specs.States.{meanings, model_of};
+ghost use Rattle.decoder.specs.States.{model_of};
 ghost use Rattle.plan.specs.Plans.{payload_bits};
 ghost use Rattle.search.specs.Calls as search;
 ghost use Rattle.search.specs.Search.{called};
@@ -22,8 +22,8 @@ use store::Store;
 impl<S: Store, C: Judge> Decoder<S, C> {
     // Strikes the shown word, so that the search may go on to the next.
     pub fn strike(&mut self) -> Result<Report, Refusal>
-        ensures model { model_of (meanings S.Store C.Judge) self.new.state ≡ (called ruled (model_of (meanings S.Store C.Judge) self.old.state) search.Strike).0 }
-        ensures answer { reported result ≡ (called ruled (model_of (meanings S.Store C.Judge) self.old.state) search.Strike).1 }
+        ensures model { model_of S.Store C.Judge self.new.state ≡ (called ruled (model_of S.Store C.Judge self.old.state) search.Strike).0 }
+        ensures answer { reported result ≡ (called ruled (model_of S.Store C.Judge self.old.state) search.Strike).1 }
         ensures check { self.new.state.check ≡ self.old.state.check }
         ensures refused { KeptIfRefused result self.old self.new }
     {
@@ -35,7 +35,7 @@ impl<S: Store, C: Judge> Decoder<S, C> {
     // Writes the payload of the shown word into a buffer of its length.
     fn write_payload(&self, output: &mut [u8])
         requires size { length output.old ≡ payload_bits (plan_in self.now.state.block) }
-        ensures { allows self.now.state.phase call.Word ≡ true → output.new ≡ map byte_of (payload_in (model_of (meanings S.Store C.Judge) self.now.state)) }
+        ensures { allows self.now.state.phase call.Word ≡ true → output.new ≡ map byte_of (payload_in (model_of S.Store C.Judge self.now.state)) }
     {
         let Phase::Shown(c) = self.state.phase else {
             return;
@@ -52,8 +52,8 @@ impl<S: Store, C: Judge> Decoder<S, C> {
 
     // Writes the payload of the shown word, a byte for each bit.
     pub fn word(&self, output: &mut [u8]) -> Result<(), Refusal>
-        ensures answer { word_answer (payload_in (model_of (meanings S.Store C.Judge) self.now.state)) result ≡ (called ruled (model_of (meanings S.Store C.Judge) self.now.state) (search.Word (length output.old))).1 }
-        ensures output { output.new ≡ output_after result (payload_in (model_of (meanings S.Store C.Judge) self.now.state)) output.old }
+        ensures answer { word_answer (payload_in (model_of S.Store C.Judge self.now.state)) result ≡ (called ruled (model_of S.Store C.Judge self.now.state) (search.Word (length output.old))).1 }
+        ensures output { output.new ≡ output_after result (payload_in (model_of S.Store C.Judge self.now.state)) output.old }
         ensures refused { KeptIfRefused result output.old output.new }
     {
         self.state.phase.admits(Phased::Word)?;

@@ -3,7 +3,7 @@ ghost use Rattle.std.specs.Prelude.{◌≡◌, ◌*◌, ◌≤◌, true, length,
 ghost use Rattle.decoder.specs.Answers.{halt_of, met_of, shown_path};
 ghost use Rattle.decoder.specs.Blocks.{plan_in};
 ghost use Rattle.decoder.specs.Phases.{is_loaded};
-ghost use Rattle.decoder.specs.States.{meanings, loaded_of, phase_of, Sound};
+ghost use Rattle.decoder.specs.States.{loaded_of, phase_of, Sound};
 ghost use Rattle.decoder.specs.declared.phase.Phase.TheVariants as phase;
 ghost use Rattle.plan.specs.Plans.{block_length};
 ghost use Rattle.search.specs.Search as search;
@@ -19,7 +19,7 @@ use store::Store;
 impl<S: Store, C: Judge> State<S, C> {
     // The look before a step: what ends the search, if anything does.
     fn halt(&self) -> Option<Met>
-        ensures { halt_of result ≡ search.halt ruled (loaded_of (meanings S.Store C.Judge) self.now) }
+        ensures { halt_of result ≡ search.halt ruled (loaded_of S.Store C.Judge self.now) }
     {
         if self.store.count() == 0 {
             return Some(Met::NoneLeft);
@@ -34,11 +34,13 @@ impl<S: Store, C: Judge> State<S, C> {
 
     // Looks and steps, at most budget times; wipes its working memory on every way out.
     pub fn search(&mut self, budget: u32, room: &mut [i32]) -> Met
+        requires sound { Sound S.Store C.Judge self.old }
+        requires searching { self.old.phase ≡ phase.Searching }
         requires room { 2 * block_length (plan_in self.old.block) ≤ length room.old }
-        ensures model { Sound (meanings S.Store C.Judge) self.old → self.old.phase ≡ phase.Searching → loaded_of (meanings S.Store C.Judge) self.new ≡ (search.advanced ruled budget (loaded_of (meanings S.Store C.Judge) self.old)).1 }
-        ensures met { Sound (meanings S.Store C.Judge) self.old → self.old.phase ≡ phase.Searching → met_of (shown_path (phase_of (meanings S.Store C.Judge) self.new)) result ≡ (search.advanced ruled budget (loaded_of (meanings S.Store C.Judge) self.old)).0 }
-        ensures sound { Sound (meanings S.Store C.Judge) self.old → self.old.phase ≡ phase.Searching → Sound (meanings S.Store C.Judge) self.new }
-        ensures loaded { Sound (meanings S.Store C.Judge) self.old → self.old.phase ≡ phase.Searching → is_loaded self.new.phase ≡ true }
+        ensures model { loaded_of S.Store C.Judge self.new ≡ (search.advanced ruled budget (loaded_of S.Store C.Judge self.old)).1 }
+        ensures met { met_of (shown_path (phase_of self.new)) result ≡ (search.advanced ruled budget (loaded_of S.Store C.Judge self.old)).0 }
+        ensures sound { Sound S.Store C.Judge self.new }
+        ensures loaded { is_loaded self.new.phase ≡ true }
         ensures check { self.new.check ≡ self.old.check }
         ensures room { room.new ≡ replicate (length room.old) (pos 0) }
     {

@@ -1,7 +1,7 @@
 // The figures of a search. Assumes nothing.
 ghost use Rattle.std.specs.Prelude.{◌≡◌};
 ghost use Rattle.decoder.specs.Answers.{figures_of};
-ghost use Rattle.decoder.specs.States.{meanings, loaded_of};
+ghost use Rattle.decoder.specs.States.{loaded_of};
 ghost use Rattle.search.specs.Stores.{ruled};
 ghost use Rattle.search.specs.Search.{report_of};
 
@@ -14,7 +14,7 @@ use store::{Store, lesser};
 impl<S: Store, C: Judge> State<S, C> {
     // The figures, in any phase.
     pub fn figures(&self) -> Report
-        ensures { figures_of result ≡ report_of ruled (loaded_of (meanings S.Store C.Judge) self.now) }
+        ensures { figures_of result ≡ report_of ruled (loaded_of S.Store C.Judge self.now) }
     {
         let shown = match self.phase {
             Phase::Shown(c) => Some(c.metric),

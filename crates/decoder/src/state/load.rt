@@ -2,7 +2,7 @@
 ghost use Rattle.std.specs.Prelude.{◌≡◌, true, ◌&&◌, length, ◌==◌};
 ghost use Rattle.decoder.specs.Answers.{Examined, fits_check, request_of, started_with};
 ghost use Rattle.decoder.specs.Limits.{limits_allowed};
-ghost use Rattle.decoder.specs.States.{meanings, model_of, Coherent};
+ghost use Rattle.decoder.specs.States.{model_of, Coherent};
 ghost use Rattle.model.specs.Blocks.{meaning_of};
 ghost use Rattle.plan.specs.Plans.{block_length};
 ghost use Rattle.search.specs.Calls as search;
@@ -44,8 +44,8 @@ impl<S: Store, C: Judge> State<S, C> {
     // Makes the path of length 0 the only one that is kept.
     pub fn start(&mut self, block: Block, limits: Limits)
         requires limits { limits_allowed limits ≡ true }
-        ensures model { model_of (meanings S.Store C.Judge) self.new ≡ search.Busy (started_with block (meaning_of C.Judge self.old.check) limits) }
-        ensures coherent { Coherent (meanings S.Store C.Judge) self.new }
+        ensures model { model_of S.Store C.Judge self.new ≡ search.Busy (started_with block (meaning_of C.Judge self.old.check) limits) }
+        ensures coherent { Coherent S.Store C.Judge self.new }
         ensures check { self.new.check ≡ self.old.check }
     {
         self.store.empty(limits.capacity);

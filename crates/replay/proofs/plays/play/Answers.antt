@@ -2,7 +2,7 @@ use Rattle.std.proofs.Common.{◌≡◌, ◌-◌, length, take, sym, refl, ap, �
 use Rattle.search.specs.Calls as search
 use Rattle.search.specs.Search.{called}
 use Rattle.search.specs.Stores.{ruled}
-use Rattle.decoder.specs.States.{meanings, model_of}
+use Rattle.decoder.specs.States.{model_of}
 use Rattle.replay.specs.Plays.{call_of, heard, output_left, scratch_left}
 use Rattle.replay.proofs.Parts.{front_length}
 use Rattle.replay.proofs.Played.{scratch-whole, output-whole, word-spares, advance-spares, kept_same, kept_whole}
@@ -10,8 +10,7 @@ use Rattle.replay.proofs.plays.play.Goals as goal
 
 pub returns-in-Advance : goal.returns-in-Advance
 returns-in-Advance g c =
-    let m = meanings g.S.Store g.C.Judge in
-    let d = model_of m c.args.decoder.now.state in
+    let d = model_of g.S.Store g.C.Judge c.args.decoder.now.state in
     let scratch = c.args.scratch.now in
     let output = c.args.output.now in
     let room = c.min-room.result in
@@ -32,8 +31,7 @@ returns-in-Advance g c =
 
 pub returns-in-Word : goal.returns-in-Word
 returns-in-Word g c =
-    let m = meanings g.S.Store g.C.Judge in
-    let d = model_of m c.args.decoder.now.state in
+    let d = model_of g.S.Store g.C.Judge c.args.decoder.now.state in
     let scratch = c.args.scratch.now in
     let output = c.args.output.now in
     let room = c.min-room-in-Word.result in

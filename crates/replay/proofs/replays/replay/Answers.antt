@@ -1,7 +1,7 @@
 use Rattle.std.proofs.Common.{◌≡◌, ◌+◌, ◌<◌, ◌≤◌, length, vec_items, sym, refl, ap, ◌∙◌, subst, arith}
 use Rattle.search.specs.Search.{called}
 use Rattle.search.specs.Stores.{ruled}
-use Rattle.decoder.specs.States.{meanings, model_of, unloaded}
+use Rattle.decoder.specs.States.{model_of, unloaded}
 use Rattle.replay.specs.Plays.{call_of, heard, output_left, scratch_left}
 use Rattle.replay.specs.Replays.{calls_of}
 use Rattle.replay.proofs.Exactness.{metrics-exact}
@@ -10,7 +10,6 @@ use Rattle.replay.proofs.replays.replay.Goals as goal
 
 pub returns-in-Err : goal.returns-in-Err
 returns-in-Err g c =
-    let m = meanings g.S.Store g.C.Judge in
     let e = c.new-decoder.ensures in
     record {
       answers = tt;
@@ -34,7 +33,6 @@ push_reserved-requires g c =
 
 pub loop-call-preserved : goal.loop-call-preserved
 loop-call-preserved g c =
-    let m = meanings g.S.Store g.C.Judge in
     let (remains, check, len, cap) = c.loop-call.invariant in
     let taken : c.loop-call.call-index < length c.args.calls.now = c.loop-call-test.true in
     let i = c.loop-call.call-index in
@@ -42,13 +40,13 @@ loop-call-preserved g c =
     let calls = c.args.calls.now in
     let scratch = c.args.scratch.now in
     let output = c.args.output.now in
-    let here = model_of m c.loop-call.decoder.state in
+    let here = model_of g.S.Store g.C.Judge c.loop-call.decoder.state in
     let f = call_of g.C.Judge c.new-decoder.result.state.check c.args.values.now (length scratch) (length output) in
     let same : call_of g.C.Judge c.loop-call.decoder.state.check c.args.values.now (length c.loop-call.scratch) (length c.loop-call.output) item ≡ f item =
     same-call g.C.Judge c.loop-call.decoder.state.check c.new-decoder.result.state.check c.args.values.now (length c.loop-call.scratch) (length scratch) (length c.loop-call.output) (length output) item check c.loop-call.auto.scratch c.loop-call.auto.output in
     let e = c.play-answer.ensures in
     let pushed = c.push_reserved.ensures in (
-      remains-less (model_of m c.new-decoder.result.state) here (model_of m c.play-answer.new.decoder.state) _ _ _ (f item) (vec_items c.loop-call.answers) (vec_items c.push_reserved.new.self) c.play-answer.result scratch c.loop-call.scratch c.play-answer.new.scratch output c.loop-call.output c.play-answer.new.output remains (next-call f calls i item taken c.call-item.is)
+      remains-less (model_of g.S.Store g.C.Judge c.new-decoder.result.state) here (model_of g.S.Store g.C.Judge c.play-answer.new.decoder.state) _ _ _ (f item) (vec_items c.loop-call.answers) (vec_items c.push_reserved.new.self) c.play-answer.result scratch c.loop-call.scratch c.play-answer.new.scratch output c.loop-call.output c.play-answer.new.output remains (next-call f calls i item taken c.call-item.is)
           (e.model ∙ ap (λ q. (called ruled here q).0) same)
           (e.answer ∙ ap (λ q. heard (called ruled here q).1) same)
           pushed.items
@@ -61,21 +59,20 @@ loop-call-preserved g c =
 
 pub returns : goal.returns
 returns g c =
-    let m = meanings g.S.Store g.C.Judge in
     let (remains, check, len, cap) = c.loop-call.invariant in
     let left : length c.args.calls.now ≤ c.loop-call.call-index = c.loop-call-test.false in
     let new = c.new-decoder.ensures in
     let calls = c.args.calls.now in
     let scratch = c.args.scratch.now in
     let output = c.args.output.now in
-    let here = model_of m c.loop-call.decoder.state in
+    let here = model_of g.S.Store g.C.Judge c.loop-call.decoder.state in
     let answers = vec_items c.loop-call.answers in
     let f = call_of g.C.Judge c.new-decoder.result.state.check c.args.values.now (length scratch) (length output) in
     let all = λ (k : g.row.C.Denot). calls_of g.C.Judge k c.args.values.now (length scratch) (length output) calls in
-    let ends : Ends (unloaded m c.args.store) here (all c.args.check) answers scratch c.loop-call.scratch output c.loop-call.output =
-    subst (λ k. Ends (unloaded m c.args.store) here (all k) answers scratch c.loop-call.scratch output c.loop-call.output) new.check
+    let ends : Ends (unloaded g.S.Store c.args.store) here (all c.args.check) answers scratch c.loop-call.scratch output c.loop-call.output =
+    subst (λ k. Ends (unloaded g.S.Store c.args.store) here (all k) answers scratch c.loop-call.scratch output c.loop-call.output) new.check
     (subst (λ s. Ends s here (all c.new-decoder.result.state.check) answers scratch c.loop-call.scratch output c.loop-call.output) new.model
-    (remains-none (model_of m c.new-decoder.result.state) here _ _ answers scratch c.loop-call.scratch output c.loop-call.output remains (no_call f calls c.loop-call.call-index left))) in
+    (remains-none (model_of g.S.Store g.C.Judge c.new-decoder.result.state) here _ _ answers scratch c.loop-call.scratch output c.loop-call.output remains (no_call f calls c.loop-call.call-index left))) in
     record {
       answers = ends.answers_of;
       promise = keeps-promise g.C.Judge c.args.check c.args.values.now (length scratch) (length output) (g.met.C.Judge.accepted_hopeful c.args.check) _ calls;

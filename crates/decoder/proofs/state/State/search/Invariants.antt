@@ -1,16 +1,11 @@
 use Rattle.std.proofs.Common.{◌≡◌, ◌-◌, length}
 use Rattle.decoder.specs.Blocks.{HeldIn}
-use Rattle.decoder.specs.States.{Meanings, meanings, Sound}
-use Rattle.decoder.specs.declared.phase.Phase.TheVariants as phase
 use Rattle.decoder.proofs.Advances.{Going}
 use Rattle.decoder.proofs.state.State.search.Given as goal
 
-abbrev pub means : (g : goal.Over) → Meanings g.row.S.Denot g.row.C.Denot
-means g = meanings g.S.Store g.C.Judge
-
 abbrev pub invariant-loop : goal.invariant-loop
 invariant-loop g l =
-    (Sound (means g) l.initial.self → l.initial.self.phase ≡ phase.Searching → Going (means g) l.initial.self l.self l.budget (l.budget - l.counter))
+    Going g.S.Store g.C.Judge l.initial.self l.self l.budget (l.budget - l.counter)
     × (l.self.check ≡ l.initial.self.check)
     × (l.self.block ≡ l.initial.self.block)
     × (length l.room.0.now ≡ length l.initial.room.0.now)

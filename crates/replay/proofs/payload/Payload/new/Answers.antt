@@ -1,7 +1,7 @@
 use Rattle.std.proofs.Common.{ℕ, min, List, length, ap₂}
-use Rattle.replay.specs.declared.call.Payload.{Payload}
+use Rattle.replay.specs.declared.payload.Payload.{Payload}
 use Rattle.replay.proofs.Parts.{padded}
-use Rattle.replay.proofs.plays.payload_of.Goals as goal
+use Rattle.replay.proofs.payload.Payload.new.Goals as goal
 
 pub returns : goal.returns
 returns c =
