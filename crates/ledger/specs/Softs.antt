@@ -4,7 +4,7 @@ use Rattle.base.specs.declared.refusal.Refusal.{Refusal}
 use Rattle.base.specs.declared.refusal.Refusal.TheVariants.{Block}
 use Rattle.block.specs.Fields.{received_at}
 use Rattle.code.specs.Recovery.{soft_at}
-use Rattle.cost.specs.Limits.{in_range}
+use Rattle.cost.specs.Limits.{is_beyond}
 use Rattle.plan.specs.Plans.{block_length}
 use Rattle.plan.specs.declared.plan.Plan.{Plan}
 
@@ -13,5 +13,5 @@ pub record IsFirstBeyond (plan : Plan) (body : List ℕ) (e : Refusal) : Type 0 
   pub at : ℕ
   pub refusal : e ≡ Block at
   pub place : at < block_length plan
-  pub before : (i : ℕ) → i < at → in_range (soft_at plan (received_at body) i) ≡ true
-  pub beyond : in_range (soft_at plan (received_at body) at) ≡ false
+  pub before : (i : ℕ) → i < at → is_beyond (soft_at plan (received_at body) i) ≡ false
+  pub beyond : is_beyond (soft_at plan (received_at body) at) ≡ true

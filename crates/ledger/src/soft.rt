@@ -26,8 +26,7 @@ pub fn soft_values(plan: &Plan, body: &[u8]) -> Result<Soft, Refusal>
     }
     let llrs = soft_places(plan, body)?;
     let llrs = &llrs[..plan.length()];
-    let beyond = Refusal::Block {
+    Soft::new(usize::from(plan.log_length()), llrs).ok_or_else(|| Refusal::Block {
         at: first_beyond(llrs).unwrap_or(0),
-    };
-    Soft::new(usize::from(plan.log_length()), llrs).ok_or(beyond)
+    })
 }
