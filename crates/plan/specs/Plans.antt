@@ -74,6 +74,11 @@ abbrev pub Made : {X : Type 0} → Plan → Request → Result X Refusal → Pla
 Made before q (Ok done) after = (verdict q ≡ None) × Planned q after
 Made before q (Err refusal) after = (verdict q ≡ Some refusal) × (after ≡ before)
 
+-- a plan made of a request alone
+abbrev pub MadeOf : Request → Result Plan Refusal → Type 0
+MadeOf q (Ok plan) = (verdict q ≡ None) × Planned q plan
+MadeOf q (Err refusal) = verdict q ≡ Some refusal
+
 -- the request whose plan a place holds before any is made: one information position in a block of 32
 abbrev pub builtin_request : Request
 builtin_request = record { n = 5; payload = 1; sent = 32; low = 0; parity = 0; check_bits = 0; longest = 1 }

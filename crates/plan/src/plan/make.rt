@@ -1,6 +1,6 @@
 // Making a plan: the caller's place is written whole, or the request refused. Assumes nothing.
 ghost use Rattle.std.specs.Prelude.{◌≡◌, Some, None, IfOk, IfErr};
-ghost use Rattle.plan.specs.Plans.{Planned, Made, builtin_request};
+ghost use Rattle.plan.specs.Plans.{Planned, Made, MadeOf, builtin_request};
 ghost use Rattle.plan.specs.Requests.{verdict};
 
 use crate::block_size::BlockSize;
@@ -47,7 +47,7 @@ impl Plan {
         Ok(())
     }
 
-    // The plan that is asked for, or why there is none.
+    // The plan that is asked for, by its parts.
     fn of(request: &Request) -> Result<Plan, Refusal>
         ensures planned { IfOk result (Planned request.now) }
         ensures granted { IfOk result (λ _. verdict request.now ≡ None) }
@@ -75,5 +75,16 @@ impl Plan {
             marks,
             kinds,
         })
+    }
+}
+
+// The plan that is asked for, or why there is none.
+impl TryFrom<&Request> for Plan {
+    type Error = Refusal;
+
+    ghost try_from_gives = { λ asked r. MadeOf asked.now r };
+
+    fn try_from(asked: &Request) -> Result<Plan, Refusal> {
+        Plan::of(asked)
     }
 }
