@@ -1,5 +1,5 @@
-// For the stores of this repository alone: the memory that each of them has, and what they do with it alike.
-// Assumes nothing.
+// For the stores of this repository alone, since two calls ask something of the caller: the memory that each store has,
+// and what they all do with it. Assumes nothing.
 ghost use Rattle.std.specs.Fn.{FnOnceTakesAtMut, FnOnceReturnsAtMut};
 ghost use Rattle.std.specs.List.{list_any};
 ghost use Rattle.std.specs.Prelude.{◌==◌, ◌≡◌, ◌↔◌, ◌<◌, ◌≤◌, [], ◌∷◌, ◌++◌, length, Some, None, IsTrue, MatchOption};
@@ -10,7 +10,7 @@ use crate::candidate::Candidate;
 use crate::minimum::lesser;
 use crate::store::{BLANK, MOST, held_capacity};
 
-// The candidates in use stand in front, in an order that each store chooses for itself.
+// The candidates in use stand in front, in an order that is each store's own.
 #[derive(Clone, Copy, Drop)]
 pub struct Slots {
     all: [Candidate; MOST],

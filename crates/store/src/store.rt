@@ -23,7 +23,7 @@ pub const BLANK: Candidate = Candidate {
 pub fn held_capacity(wanted: usize) -> usize
     ensures result { result ≡ held_capacity wanted }
 {
-    wanted.max(2).min(MOST)
+    wanted.clamp(2, MOST)
 }
 
 pub trait Store {

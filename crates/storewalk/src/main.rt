@@ -5,34 +5,8 @@
 use heap::Heap;
 use std::alloc::{AllocError, Global};
 use std::io;
-use store::{Candidate, Store, Table};
-use storecalls::{Answer, Call, play};
-
-fn candidate(metric: &str, length: &str, serial: &str, row: &str) -> Option<Candidate> {
-    Some(Candidate {
-        metric: metric.parse::<u32>().ok()?,
-        length: length.parse::<u16>().ok()?,
-        serial: serial.parse::<u32>().ok()?,
-        row: row.parse::<u8>().ok()?,
-    })
-}
-
-// The call that a line names; absent where it names none.
-fn call_of(words: &[&str]) -> Option<Call> {
-    match words {
-        ["empty", size] => Some(Call::Empty(size.parse::<usize>().ok()?)),
-        ["put", metric, length, serial, row] => Some(Call::Put(candidate(
-            metric, length, serial, row,
-        )?)),
-        ["take"] => Some(Call::Take),
-        ["count"] => Some(Call::Count),
-        ["capacity"] => Some(Call::Capacity),
-        ["first"] => Some(Call::FirstMetric),
-        ["floor"] => Some(Call::Floor),
-        ["holds", row] => Some(Call::HoldsRow(row.parse::<u8>().ok()?)),
-        _ => None,
-    }
-}
+use store::{Store, Table};
+use storecalls::{Call, NoCall, play};
 
 // What one store answers, and how many it then keeps.
 fn told<S: Store>(heap: Global, store: &mut S, call: Call) -> Result<String, AllocError> {
@@ -48,13 +22,13 @@ fn main(rt: HostRuntime) -> io::Result<()> {
     for line in rt.lines(heap) {
         let line = line?;
         let words: Vec<&str> = line.as_str().split(' ').collect(heap)?;
-        match call_of(words.as_slice()) {
-            Some(call) => {
+        match Call::try_from(words.as_slice()) {
+            Ok(call) => {
                 let first = told(heap, &mut table, call)?;
                 let second = told(heap, &mut binary, call)?;
                 println!(rt; "table {first} heap {second}")?;
             }
-            None => println!(rt; "malformed: {line}")?,
+            Err(NoCall) => println!(rt; "malformed: {line}")?,
         }
     }
     Ok(())
