@@ -107,16 +107,22 @@ pub finishing-start : (c : Spread) (p w : List Bool) (ks : List ℕ) → ks ≡ 
 unfolding interleaved
 finishing-start c p w ks e = ap (map (whole c p)) e
 
-pub finishing-next : (c : Spread) (p w v : List Bool) (place k : ℕ) (ks : List ℕ) (r : Bool) → length p ≤ longest c
-    → length w ≡ length p + width c → r ≡ whole c p k → v ≡ set w place r → finishing c p w place (k ∷ ks) ≡ interleaved c p
-    → finishing c p v (place + 1) ks ≡ interleaved c p
-finishing-next c p w v place k ks r h lw hr hv inv =
+-- there is room for the next bit
+pub finishing-inside : (c : Spread) (p w : List Bool) (place k : ℕ) (ks : List ℕ) → length p ≤ longest c → length w ≡ length p + width c
+    → finishing c p w place (k ∷ ks) ≡ interleaved c p → place < length w
+finishing-inside c p w place k ks h lw inv =
     let g = whole c p in
     let n : length (take place w) + suc (length (map g ks)) ≡ length p + width c =
     sym (length-append (take place w) (g k ∷ map g ks)) ∙ ap length inv ∙ length-interleaved c p h in
     let t = length-take place w in
-    let l : place < length w = omega arith in
-    ap (λ x. take (place + 1) x ++ map g ks) hv ∙ ap (λ x. x ++ map g ks) (take_more_set w place r l)
+    omega arith
+
+pub finishing-next : (c : Spread) (p w v : List Bool) (place k : ℕ) (ks : List ℕ) (r : Bool) → place < length w
+    → r ≡ whole c p k → v ≡ set w place r → finishing c p w place (k ∷ ks) ≡ interleaved c p
+    → finishing c p v (place + 1) ks ≡ interleaved c p
+finishing-next c p w v place k ks r inside hr hv inv =
+    let g = whole c p in
+    ap (λ x. take (place + 1) x ++ map g ks) hv ∙ ap (λ x. x ++ map g ks) (take_more_set w place r inside)
     ∙ append_assoc (take place w) (r ∷ []) (map g ks) ∙ ap (λ x. take place w ++ x ∷ map g ks) hr ∙ inv
 
 pub finishing-done : (c : Spread) (p w : List Bool) (place : ℕ) → length p ≤ longest c → length w ≡ length p + width c
