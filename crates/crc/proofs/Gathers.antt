@@ -1,6 +1,7 @@
 -- Sums and tests over a word that was gathered through an order. Assumes nothing.
 use Rattle.std.proofs.Common.{◌≡◌, ℕ, zero, suc, ◌<◌, Bool, true, false, ◌&&◌, eqb, ltb, List, [], ◌∷◌, map, length, get_or, sym, refl, ap, ◌∙◌, ap₂, ⊎_elim, arith}
 use mathlib.Core.Bool.{xor}
+use Rattle.std.proofs.lemmas.Bool.Decides.{nat_tests}
 use Rattle.std.proofs.lemmas.Bool.{lt-ltb, le-ltb, ne_eqb, eq-eqb, cases_lt, cases_eq, or_parts, or_from}
 use Rattle.base.specs.Counts.{xor_below}
 use Rattle.crc.specs.Spread.{sum_into, some_bit}
@@ -16,14 +17,7 @@ sum-false f (k ∷ ks) (b ∷ bs) h = ap₂ (λ x y. xor (x && b) y) (h k) (sum-
 
 and_xor : (x y b : Bool) → (xor x y && b) ≡ xor (x && b) (y && b)
 unfolding xor
-and_xor true true true = refl
-and_xor true true false = refl
-and_xor true false true = refl
-and_xor true false false = refl
-and_xor false true true = refl
-and_xor false true false = refl
-and_xor false false true = refl
-and_xor false false false = refl
+and_xor x y b = grind (arith, nat_tests)
 
 sum-split : (f g h : ℕ → Bool) (ks : List ℕ) (bs : List Bool) → ((k : ℕ) → f k ≡ xor (g k) (h k))
     → sum_into f ks bs ≡ xor (sum_into g ks bs) (sum_into h ks bs)
@@ -57,17 +51,8 @@ sum-once f g n (k ∷ ks) h =
     (cases_eq n k)
 
 below_more : (f : ℕ → Bool) (n k : ℕ) → (ltb k (suc n) && f k) ≡ xor (ltb k n && f k) (eqb n k && f k)
-below_more f n k =
-    ⊎_elim
-    (λ l. ap (λ t. t && f k) (lt-ltb k (suc n) (omega arith))
-    ∙ sym (ap₂ (λ x y. xor (x && f k) (y && f k)) (lt-ltb k n l) (ne_eqb n k (λ e. omega arith)) ∙ xor-false-r (f k)))
-    (λ g. ⊎_elim
-    (λ e. ap (λ t. t && f k) (lt-ltb k (suc n) (omega arith))
-    ∙ sym (ap₂ (λ x y. xor (x && f k) (y && f k)) (le-ltb k n g) (eq-eqb n k e) ∙ xor-false-l (f k)))
-    (λ d. ap (λ t. t && f k) (le-ltb k (suc n) (omega arith))
-    ∙ sym (ap₂ (λ x y. xor (x && f k) (y && f k)) (le-ltb k n g) (ne_eqb n k d) ∙ xor-false-r false))
-    (cases_eq n k))
-    (cases_lt k n)
+unfolding xor
+below_more f n k = grind (arith, nat_tests)
 
 -- where each number below n occurs once, a sum through the order is the sum over the numbers
 pub sum_below : (f g : ℕ → Bool) (ks : List ℕ) (n : ℕ) → ((k : ℕ) → k < n → occurrences k ks ≡ 1)
