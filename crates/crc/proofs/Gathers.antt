@@ -29,26 +29,15 @@ sum-split f g h (k ∷ ks) (b ∷ bs) e =
     ∙ xor-middle (g k && b) (h k && b) (sum_into g ks bs) (sum_into h ks bs)
 
 sum-absent : (f g : ℕ → Bool) (n : ℕ) (ks : List ℕ) → occurrences n ks ≡ 0 → sum_into (λ k. eqb n k && f k) ks (map g ks) ≡ false
-unfolding sum_into occurrences
+unfolding sum_into occurrences xor
 sum-absent f g n [] h = refl
-sum-absent f g n (k ∷ ks) h =
-    ⊎_elim
-    (λ e. let o : counted (eqb n k) ≡ 1 = ap counted (eq-eqb n k e) in absurd (omega arith))
-    (λ d. ap₂ (λ x y. xor ((x && f k) && g k) y) (ne_eqb n k d) (sum-absent f g n ks (omega arith)) ∙ xor-false-r false)
-    (cases_eq n k)
+sum-absent f g n (k ∷ ks) h = grind (arith, nat_tests, sum-absent f g n ks)
 
 sum-once : (f g : ℕ → Bool) (n : ℕ) (ks : List ℕ) → occurrences n ks ≡ 1
     → sum_into (λ k. eqb n k && f k) ks (map g ks) ≡ (f n && g n)
-unfolding sum_into occurrences
+unfolding sum_into occurrences xor
 sum-once f g n [] h = absurd (omega arith)
-sum-once f g n (k ∷ ks) h =
-    ⊎_elim
-    (λ e. let o : counted (eqb n k) ≡ 1 = ap counted (eq-eqb n k e) in
-    ap₂ (λ x y. xor ((x && f k) && g k) y) (eq-eqb n k e) (sum-absent f g n ks (omega arith))
-    ∙ xor-false-r (f k && g k) ∙ sym (ap (λ m. f m && g m) e))
-    (λ d. let o : counted (eqb n k) ≡ 0 = ap counted (ne_eqb n k d) in
-    ap₂ (λ x y. xor ((x && f k) && g k) y) (ne_eqb n k d) (sum-once f g n ks (omega arith)) ∙ xor-false-l (f n && g n))
-    (cases_eq n k)
+sum-once f g n (k ∷ ks) h = grind (arith, nat_tests, sum-once f g n ks, sum-absent f g n ks)
 
 below_more : (f : ℕ → Bool) (n k : ℕ) → (ltb k (suc n) && f k) ≡ xor (ltb k n && f k) (eqb n k && f k)
 unfolding xor

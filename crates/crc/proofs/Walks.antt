@@ -2,6 +2,7 @@
 -- every payload bit that enters a check bit stands before it. Assumes nothing.
 use Rattle.std.proofs.Common.{◌≡◌, ℕ, zero, suc, ◌+◌, ◌-◌, ◌≤◌, Bool, true, false, not, ◌&&◌, ◌||◌, ltb, leb, List, [], ◌∷◌, take, sym, refl, ap, ◌∙◌, ap₂, ⊎_elim, arith}
 use mathlib.Core.Bool.{xor}
+use Rattle.std.proofs.lemmas.Bool.Decides.{nat_tests}
 use Rattle.std.proofs.lemmas.Bool.{lt-leb, lt-ltb, le-ltb, cases_lt, and_parts, and_from, or_parts, or_cases, or_from, or_right, or_left, not-true, both_ways}
 use Rattle.crc.specs.Spread.{struck, sum_into, some_bit}
 use Rattle.base.proofs.Transform.{xor_assoc, xor-false-r}
@@ -50,15 +51,8 @@ sum-none f (k ∷ ks) (b ∷ bs) h =
 first_bit : (a k : ℕ) (M : ℕ → ℕ → Bool) (acc : ℕ → Bool) (ks : List ℕ) (b : Bool) (bs : List Bool)
     → ((j i : ℕ) → a ≤ i → M j i ≡ false) → (ltb k a || none_has (M (k - a)) ks) ≡ true
     → (leb a k && xor b (acc (k - a))) ≡ (leb a k && xor b (xor (acc (k - a)) (xor (M (k - a) k && b) (sum_into (M (k - a)) ks bs))))
-first_bit a k M acc ks b bs m h =
-    ⊎_elim
-    (λ l. ap (λ t. t && xor b (acc (k - a))) (lt-leb a k l)
-    ∙ sym (ap (λ t. t && xor b (xor (acc (k - a)) (xor (M (k - a) k && b) (sum_into (M (k - a)) ks bs)))) (lt-leb a k l)))
-    (λ g. let n : none_has (M (k - a)) ks ≡ true = ⊎_elim (λ e. absurd (both_ways (ltb k a) (le-ltb k a g) e)) (λ e. e) (or_cases (ltb k a) (none_has (M (k - a)) ks) h) in
-    let z : xor (M (k - a) k && b) (sum_into (M (k - a)) ks bs) ≡ false =
-    ap₂ (λ x y. xor (x && b) y) (m (k - a) k g) (sum-none (M (k - a)) ks bs n) ∙ xor-false-r false in
-    ap (λ x. leb a k && xor b x) (sym (xor-false-r (acc (k - a))) ∙ ap (xor (acc (k - a))) (sym z)))
-    (cases_lt k a)
+unfolding xor
+first_bit a k M acc ks b bs m h = grind (arith, nat_tests, m, sum-none)
 
 pub walk-some : (a : ℕ) (M : ℕ → ℕ → Bool) (acc : ℕ → Bool) (ks : List ℕ) (bs : List Bool)
     → ((j i : ℕ) → a ≤ i → M j i ≡ false) → settled a M ks ≡ true
