@@ -1,7 +1,6 @@
 -- What the test of lengths tells. Assumes nothing.
 use Rattle.std.proofs.Common.{◌≡◌, ℕ, ◌+◌, ◌≤◌, true, false, is_ok, OnOk, Result, Ok, Err, sym, arith}
 use Rattle.std.proofs.lemmas.Bool.Decides.{nat_tests}
-use Rattle.std.proofs.lemmas.Bool.{and_parts, leb-true, eqb-true, and_from, le-leb, eq-eqb, both_ways}
 use Rattle.crc.specs.Lengths.{fitting}
 
 pub fitting-tells : (h l a k : ℕ) → fitting h l a k ≡ true → (a ≤ h) × (k ≡ a + l)

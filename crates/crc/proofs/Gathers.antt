@@ -1,13 +1,13 @@
 -- Sums and tests over a word that was gathered through an order. Assumes nothing.
-use Rattle.std.proofs.Common.{◌≡◌, ℕ, zero, suc, ◌<◌, Bool, true, false, ◌&&◌, eqb, ltb, List, [], ◌∷◌, map, length, get_or, sym, refl, ap, ◌∙◌, ap₂, ⊎_elim, arith}
+use Rattle.std.proofs.Common.{◌≡◌, ℕ, zero, suc, ◌<◌, Bool, false, ◌&&◌, eqb, ltb, List, [], ◌∷◌, map, length, get_or, sym, refl, ap, ◌∙◌, ap₂, arith}
 use mathlib.Core.Bool.{xor}
 use Rattle.std.proofs.lemmas.Bool.Decides.{nat_tests}
-use Rattle.std.proofs.lemmas.Bool.{lt-ltb, le-ltb, ne_eqb, eq-eqb, cases_lt, cases_eq, or_parts, or_from}
+use Rattle.std.proofs.lemmas.Bool.{le-ltb, or_parts, or_from}
 use Rattle.base.specs.Counts.{xor_below}
 use Rattle.crc.specs.Spread.{sum_into, some_bit}
-use Rattle.base.proofs.Transform.{xor-false-r, xor-false-l}
+use Rattle.base.proofs.Transform.{xor-false-r}
 use Rattle.crc.proofs.Xors.{xor-middle}
-use Rattle.crc.proofs.Occurrences.{occurrences, counted}
+use Rattle.crc.proofs.Occurrences.{occurrences}
 
 sum-false : (f : ℕ → Bool) (ks : List ℕ) (bs : List Bool) → ((k : ℕ) → f k ≡ false) → sum_into f ks bs ≡ false
 unfolding sum_into

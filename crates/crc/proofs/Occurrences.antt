@@ -1,7 +1,7 @@
 -- How often a number occurs in a list, where it stands, and what striking leaves of that. Assumes nothing.
-use Rattle.std.proofs.Common.{◌≡◌, ℕ, zero, suc, ◌+◌, ◌-◌, ◌<◌, ◌≤◌, Bool, true, false, cond, ◌&&◌, eqb, ltb, List, [], ◌∷◌, map, length, get_or, sym, refl, ap, ◌∙◌, ap₂, ⊎_elim, arith, zero-add}
+use Rattle.std.proofs.Common.{◌≡◌, ℕ, zero, suc, ◌+◌, ◌-◌, ◌<◌, ◌≤◌, Bool, true, false, cond, ◌&&◌, eqb, ltb, List, [], ◌∷◌, map, length, get_or, sym, refl, ap, ◌∙◌, arith}
 use Rattle.std.proofs.lemmas.List.{ext_get_or, length-map, get_or-map}
-use Rattle.std.proofs.lemmas.Bool.{le-leb, lt-leb, ne_eqb, eq-eqb, cases_lt, cases_order, cases_eq, and_parts, and_from, ltb-true, lt-ltb}
+use Rattle.std.proofs.lemmas.Bool.{le-leb, lt-leb}
 use Rattle.std.proofs.lemmas.Bool.Decides.{nat_tests}
 use Rattle.crc.specs.Spread.{struck, place_of}
 
@@ -69,20 +69,14 @@ inside-at n (x ∷ xs) (suc m) h l = grind (arith, nat_tests, inside-at n xs m)
 occurs-at : (xs : List ℕ) (m : ℕ) → m < length xs → 1 ≤ occurrences (get_or xs m 0) xs
 unfolding occurrences
 occurs-at [] m h = omega arith
-occurs-at (x ∷ xs) zero h =
-    let e : counted (eqb x x) ≡ 1 = ap counted (eq-eqb x x refl) in omega arith
-occurs-at (x ∷ xs) (suc m) h = omega (arith, occurs-at xs m (omega arith))
+occurs-at (x ∷ xs) zero h = grind (arith, nat_tests)
+occurs-at (x ∷ xs) (suc m) h = grind (arith, nat_tests, occurs-at xs m)
 
 pub place_at : (xs : List ℕ) (m : ℕ) → m < length xs → occurrences (get_or xs m 0) xs ≡ 1 → place_of (get_or xs m 0) xs ≡ m
 unfolding occurrences place_of
 place_at [] m h o = omega arith
-place_at (x ∷ xs) zero h o = ap (λ t. cond t 0 (suc (place_of x xs))) (eq-eqb x x refl)
-place_at (x ∷ xs) (suc m) h o =
-    let k = get_or xs m 0 in
-    let p = occurs-at xs m (omega arith) in
-    let z : counted (eqb k x) ≡ 0 = omega arith in
-    let e : eqb k x ≡ false = cond-zero (eqb k x) z in
-    ap (λ t. cond t 0 (suc (place_of k xs))) e ∙ ap suc (place_at xs m (omega arith) (omega arith))
+place_at (x ∷ xs) zero h o = grind (arith, nat_tests)
+place_at (x ∷ xs) (suc m) h o = grind (arith, nat_tests, occurs-at xs m, place_at xs m)
 
 pub get_or-place : (g : ℕ → Bool) (xs : List ℕ) (k : ℕ) → 1 ≤ occurrences k xs → get_or (map g xs) (place_of k xs) false ≡ g k
 unfolding occurrences place_of
