@@ -42,7 +42,7 @@ order-each c a m h l =
 
 enters-beyond : (c : Spread) (a j i : ℕ) → a ≤ i → enters_at c a j i ≡ false
 unfolding enters_at
-enters-beyond c a j i h = ap (λ t. t && enters (rows c) (longest c - a + i) j) (le-ltb i a h)
+enters-beyond c a j i h = grind (arith, nat_tests)
 
 same-below : (k s a h : ℕ) → s ≤ k → s + a ≡ h → ltb (k - s) a ≡ ltb k h
 same-below k s a h l e = grind (arith, nat_tests)
@@ -52,7 +52,7 @@ pub enters-struck : (c : Spread) (a j k : ℕ) → a ≤ longest c → longest c
 unfolding enters_at
 enters-struck c a j k h l =
     let e : longest c - a + (k - (longest c - a)) ≡ k = omega arith in
-    ap₂ (λ t i. t && enters (rows c) i j) (same-below k (longest c - a) a (longest c) l (omega arith)) e
+    grind (arith, nat_tests, e)
 
 order-settled : (c : Spread) (a : ℕ) → a ≤ longest c → settled a (enters_at c a) (order c a) ≡ true
 order-settled c a h =
@@ -149,10 +149,7 @@ interleaved-reads-back c p h =
 pub sound-parts : (c : Spread) (a : ℕ) (w : List Bool) → sound c a w ≡ true
     → (a ≤ longest c) × (length w ≡ a + width c) × (broken c a w ≡ false)
 unfolding sound
-sound-parts c a w h =
-    let p = and_parts _ _ h in
-    let f = fitting-tells (longest c) (width c) a (length w) p.0 in
-    (f.0, f.1, not-true _ p.1)
+sound-parts c a w h = grind (arith, nat_tests)
 
 pub sound-hopeful : (c : Spread) (a : ℕ) (w : List Bool) (m : ℕ) → sound c a w ≡ true → broken c a (take m w) ≡ false
 sound-hopeful c a w m h =
@@ -209,4 +206,4 @@ sound-interleaved c a w h =
 
 pub unbroken-beyond : (c : Spread) (a : ℕ) (b : List Bool) → longest c < a → broken c a b ≡ false
 unfolding broken
-unbroken-beyond c a b h = ap (λ t. t && some_bit (disagrees c a b) (order c a) b) (lt-leb a (longest c) h)
+unbroken-beyond c a b h = grind (arith, nat_tests)

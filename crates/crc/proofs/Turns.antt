@@ -5,6 +5,7 @@ use lib.Bits.{bit_and, and_mask}
 use Rattle.base.specs.Counts.{xor_below}
 use Rattle.std.proofs.lemmas.List.{take_more_set, take_all, append-nil, append_assoc, length-take, length-append}
 use Rattle.std.proofs.lemmas.List.FromFn.{fill_by_all}
+use Rattle.std.proofs.lemmas.Bool.Decides.{nat_tests}
 use Rattle.std.proofs.lemmas.Bool.{lt-ltb, le-ltb, le-leb, or_left}
 use Rattle.crc.specs.Division.{remainder}
 use Rattle.base.specs.Bits.{bit_of}
@@ -26,18 +27,17 @@ odd-bit n j = ap (λ x. eqb x 1) (and_mask (n / 2 ^ j) 1)
 -- the code's comparison of a check bit with its sum
 pub unlike-sum : (a sums k : ℕ) (v r : Bool) → a ≤ k → r ≡ bit_of sums (k - a)
     → not (beq v r) ≡ (leb a k && xor v (bit_of sums (k - a)))
-unlike-sum a sums k v r l b =
-    unlike-xor v r ∙ xor_comm r v ∙ ap (xor v) b
-    ∙ sym (ap (λ t. t && xor v (bit_of sums (k - a))) (le-leb a k l))
+unfolding xor
+unlike-sum a sums k v r l b = grind (arith, nat_tests)
 
 -- a payload bit's row, at its index in the longest payload
 pub row-entered : (c : Spread) (a i j row : ℕ) → i < a → bit_of row j ≡ enters (rows c) (longest c - a + i) j → bit_of row j ≡ enters_at c a j i
 unfolding enters_at
-row-entered c a i j row l e = e ∙ sym (ap (λ t. t && enters (rows c) (longest c - a + i) j) (lt-ltb i a l))
+row-entered c a i j row l e = grind (arith, nat_tests)
 
 pub check-enters-none : (c : Spread) (a i j : ℕ) → a ≤ i → enters_at c a j i ≡ false
 unfolding enters_at
-check-enters-none c a i j l = ap (λ t. t && enters (rows c) (longest c - a + i) j) (le-ltb i a l)
+check-enters-none c a i j l = grind (arith, nat_tests)
 
 -- ---- the check bits of a payload
 
@@ -80,7 +80,7 @@ judged-start c a ks b h e =
 pub judged-broken : (c : Spread) (a sums k : ℕ) (v d : Bool) (ks : List ℕ) (b : List Bool) → d ≡ (leb a k && xor v (bit_of sums (k - a))) → d ≡ true
     → judged c a sums (k ∷ ks) (v ∷ b) ≡ true
 unfolding walk
-judged-broken c a sums k v d ks b hd t = or_left _ _ (sym hd ∙ t)
+judged-broken c a sums k v d ks b hd t = grind (arith, nat_tests)
 
 pub judged-next : (c : Spread) (a sums r k : ℕ) (v d : Bool) (ks : List ℕ) (b : List Bool) → d ≡ (leb a k && xor v (bit_of sums (k - a))) → d ≡ false
     → ((j : ℕ) → bit_of r j ≡ xor (bit_of sums j) (enters_at c a j k && v)) → judged c a r ks b ≡ judged c a sums (k ∷ ks) (v ∷ b)
