@@ -1,12 +1,11 @@
 -- Sums and tests over a word that was gathered through an order. Assumes nothing.
-use Rattle.std.proofs.Common.{◌≡◌, ℕ, zero, suc, ◌<◌, Bool, false, ◌&&◌, eqb, ltb, List, [], ◌∷◌, map, length, get_or, sym, refl, ap, ◌∙◌, ap₂, arith}
+use Rattle.std.proofs.Common.{◌≡◌, ℕ, zero, suc, ◌<◌, Bool, false, ◌&&◌, eqb, ltb, List, [], ◌∷◌, map, length, get_or, refl, ap, ◌∙◌, ap₂, arith}
 use mathlib.Core.Bool.{xor}
 use Rattle.std.proofs.lemmas.Bool.Decides.{nat_tests}
-use Rattle.std.proofs.lemmas.Bool.{le-ltb, or_parts, or_from}
+use Rattle.std.proofs.lemmas.Bool.{le-ltb}
 use Rattle.base.specs.Counts.{xor_below}
 use Rattle.crc.specs.Spread.{sum_into, some_bit}
 use Rattle.base.proofs.Transform.{xor-false-r}
-use Rattle.crc.proofs.Xors.{xor-middle}
 use Rattle.crc.proofs.Occurrences.{occurrences}
 
 sum-false : (f : ℕ → Bool) (ks : List ℕ) (bs : List Bool) → ((k : ℕ) → f k ≡ false) → sum_into f ks bs ≡ false
@@ -15,18 +14,12 @@ sum-false f [] bs h = refl
 sum-false f (k ∷ ks) [] h = refl
 sum-false f (k ∷ ks) (b ∷ bs) h = ap₂ (λ x y. xor (x && b) y) (h k) (sum-false f ks bs h) ∙ xor-false-r false
 
-and_xor : (x y b : Bool) → (xor x y && b) ≡ xor (x && b) (y && b)
-unfolding xor
-and_xor x y b = grind (arith, nat_tests)
-
 sum-split : (f g h : ℕ → Bool) (ks : List ℕ) (bs : List Bool) → ((k : ℕ) → f k ≡ xor (g k) (h k))
     → sum_into f ks bs ≡ xor (sum_into g ks bs) (sum_into h ks bs)
-unfolding sum_into
-sum-split f g h [] bs e = sym (xor-false-r false)
-sum-split f g h (k ∷ ks) [] e = sym (xor-false-r false)
-sum-split f g h (k ∷ ks) (b ∷ bs) e =
-    ap₂ xor (ap (λ x. x && b) (e k) ∙ and_xor (g k) (h k) b) (sum-split f g h ks bs e)
-    ∙ xor-middle (g k && b) (h k && b) (sum_into g ks bs) (sum_into h ks bs)
+unfolding sum_into xor
+sum-split f g h [] bs e = refl
+sum-split f g h (k ∷ ks) [] e = refl
+sum-split f g h (k ∷ ks) (b ∷ bs) e = grind (arith, nat_tests, e k, sum-split f g h ks bs e)
 
 sum-absent : (f g : ℕ → Bool) (n : ℕ) (ks : List ℕ) → occurrences n ks ≡ 0 → sum_into (λ k. eqb n k && f k) ks (map g ks) ≡ false
 unfolding sum_into occurrences xor
@@ -55,12 +48,12 @@ sum_below f g ks (suc n) h =
 pub some-map : (f : ℕ → Bool → Bool) (g : ℕ → Bool) (ks : List ℕ) → ((k : ℕ) → f k (g k) ≡ false) → some_bit f ks (map g ks) ≡ false
 unfolding some_bit
 some-map f g [] h = refl
-some-map f g (k ∷ ks) h = or_from (f k (g k)) (some_bit f ks (map g ks)) (h k) (some-map f g ks h)
+some-map f g (k ∷ ks) h = grind (arith, nat_tests, h k, some-map f g ks h)
 
 pub some_at : (f : ℕ → Bool → Bool) (ks : List ℕ) (bs : List Bool) (m : ℕ) → some_bit f ks bs ≡ false → m < length ks → m < length bs
     → f (get_or ks m 0) (get_or bs m false) ≡ false
 unfolding some_bit
 some_at f [] bs m h l r = absurd (omega arith)
 some_at f (k ∷ ks) [] m h l r = absurd (omega arith)
-some_at f (k ∷ ks) (b ∷ bs) zero h l r = (or_parts (f k b) (some_bit f ks bs) h).0
-some_at f (k ∷ ks) (b ∷ bs) (suc m) h l r = some_at f ks bs m (or_parts (f k b) (some_bit f ks bs) h).1 (omega arith) (omega arith)
+some_at f (k ∷ ks) (b ∷ bs) zero h l r = grind (arith, nat_tests)
+some_at f (k ∷ ks) (b ∷ bs) (suc m) h l r = grind (arith, nat_tests, some_at f ks bs m)

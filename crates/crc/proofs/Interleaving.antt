@@ -2,14 +2,14 @@
 use Rattle.std.proofs.Common.{◌≡◌, ℕ, ◌+◌, ◌-◌, ◌<◌, ◌≤◌, Bool, true, false, ◌&&◌, ltb, leb, List, [], ◌∷◌, ◌++◌, map, length, get_or, take, replicate, sym, refl, ap, ◌∙◌, ap₂, ⊎_elim, arith}
 use mathlib.Core.Bool.{xor}
 use Rattle.base.specs.Counts.{xor_below}
-use Rattle.std.proofs.lemmas.Bool.{le-leb, lt-leb, le-ltb, cases_lt, and_parts, and_from, not-true, not_from_false}
+use Rattle.std.proofs.lemmas.Bool.{le-leb, lt-leb, cases_lt, and_from, not_from_false}
 use Rattle.std.proofs.lemmas.List.{ext_get_or, length-map, get_or-map, get_or_append_left, get_or-append_right}
 use Rattle.std.proofs.lemmas.List.FromFn.{get_or-map-range_with_len, length-map-range_with_len, fill_by_all}
 use Rattle.std.proofs.lemmas.Bool.Decides.{nat_tests}
 use Rattle.crc.specs.Division.{remainder}
 use Rattle.crc.specs.Spread.{width, longest, divisor, single, rows, enters, struck, order, interleaved, place_of, deinterleaved, sum_into, some_bit, enters_at, disagrees, broken, sound}
 use Rattle.crc.specs.declared.spread.Spread.{Spread}
-use Rattle.crc.proofs.Fitting.{fitting-tells, fitting-from}
+use Rattle.crc.proofs.Fitting.{fitting-from}
 use Rattle.base.proofs.Transform.{xor-false-l, xor-below-same}
 use Rattle.crc.proofs.Xors.{xor_same, xor-equal}
 use Rattle.crc.proofs.Linear.{lone, remainder-sum, remainder-zeros}

@@ -6,13 +6,11 @@ use Rattle.base.specs.Counts.{xor_below}
 use Rattle.std.proofs.lemmas.List.{take_more_set, take_all, append-nil, append_assoc, length-take, length-append}
 use Rattle.std.proofs.lemmas.List.FromFn.{fill_by_all}
 use Rattle.std.proofs.lemmas.Bool.Decides.{nat_tests}
-use Rattle.std.proofs.lemmas.Bool.{lt-ltb, le-ltb, le-leb, or_left}
+use Rattle.std.proofs.lemmas.Bool.{lt-ltb}
 use Rattle.crc.specs.Division.{remainder}
 use Rattle.base.specs.Bits.{bit_of}
 use Rattle.crc.specs.Spread.{width, longest, divisor, rows, enters, order, interleaved, place_of, deinterleaved, enters_at, broken}
 use Rattle.crc.specs.declared.spread.Spread.{Spread}
-use Rattle.crc.proofs.Xors.{xor_comm}
-use Rattle.crc.proofs.Remainders.{unlike-xor}
 use Rattle.crc.proofs.Occurrences.{occurrences, gathered}
 use Rattle.crc.proofs.Walks.{walk, walk_same}
 use Rattle.base.proofs.Bits.{bit-zero}

@@ -13,10 +13,6 @@ pub xor_same : (x : Bool) → xor x x ≡ false
 unfolding xor
 xor_same x = grind (arith, nat_tests)
 
-pub xor-middle : (x y z w : Bool) → xor (xor x y) (xor z w) ≡ xor (xor x z) (xor y w)
-unfolding xor
-xor-middle x y z w = grind (arith, nat_tests)
-
 pub xor-equal : (x y : Bool) → xor x y ≡ false → x ≡ y
 unfolding xor
 xor-equal x y h = grind (arith, nat_tests)
