@@ -4,7 +4,6 @@ use mathlib.Core.Bool.{xor}
 use Rattle.std.proofs.lemmas.Bool.Decides.{nat_tests}
 use lib.ListN.{length-replicate}
 use Rattle.std.proofs.lemmas.List.{replicate-append-replicate}
-use Rattle.std.proofs.Math.Bool.{and-true, and-false}
 use Rattle.base.specs.Counts.{xor_below}
 use Rattle.crc.specs.Division.{added, divided, remainder}
 use Rattle.crc.proofs.Remainders.{length-added, length-chosen, length-remainder}
@@ -102,11 +101,9 @@ length-lone ds p = length-remainder ds (true ∷ replicate (length p) false) ∙
 
 remainder-first : (ds p : List Bool) (b : Bool) (j : ℕ)
     → get_or (remainder ds (b ∷ p)) j false ≡ xor (get_or (lone ds (length p)) j false && b) (get_or (remainder ds p) j false)
-unfolding divided
-remainder-first ds p true j =
-    ap (λ l. get_or l j false) (divided-one ds p) ∙ get_or-added (lone ds (length p)) (remainder ds p) j (length-lone ds p)
-    ∙ ap (λ x. xor x (get_or (remainder ds p) j false)) (sym (and-true (get_or (lone ds (length p)) j false)))
-remainder-first ds p false j = sym (ap (λ x. xor x (get_or (remainder ds p) j false)) (and-false (get_or (lone ds (length p)) j false)) ∙ xor-false-l (get_or (remainder ds p) j false))
+unfolding divided xor
+remainder-first ds p true j = grind (arith, nat_tests, divided-one ds p, get_or-added (lone ds (length p)) (remainder ds p) j, length-lone ds p)
+remainder-first ds p false j = grind (arith, nat_tests)
 
 pub remainder-sum : (ds p : List Bool) (j : ℕ)
     → get_or (remainder ds p) j false ≡ xor_below (λ i. get_or (lone ds (length p - 1 - i)) j false && get_or p i false) (length p)
