@@ -1,12 +1,12 @@
 -- Sums and tests over a word that was gathered through an order. Assumes nothing.
-use Rattle.std.proofs.Common.{◌≡◌, ℕ, zero, suc, ◌<◌, Bool, true, false, ◌&&◌, eqb, ltb, List, [], ◌∷◌, map, length, get_or, sym, refl, ap, ◌∙◌, ap₂, ⊎_elim, arith}
+use Rattle.std.proofs.Common.{◌≡◌, ℕ, zero, suc, ◌<◌, Bool, false, ◌&&◌, eqb, ltb, List, [], ◌∷◌, map, length, get_or, refl, ap, ◌∙◌, ap₂, arith}
 use mathlib.Core.Bool.{xor}
-use Rattle.std.proofs.lemmas.Bool.{lt-ltb, le-ltb, ne_eqb, eq-eqb, cases_lt, cases_eq, or_parts, or_from}
+use Rattle.std.proofs.lemmas.Bool.Decides.{nat_tests}
+use Rattle.std.proofs.lemmas.Bool.{le-ltb}
 use Rattle.base.specs.Counts.{xor_below}
 use Rattle.crc.specs.Spread.{sum_into, some_bit}
-use Rattle.base.proofs.Transform.{xor-false-r, xor-false-l}
-use Rattle.crc.proofs.Xors.{xor-middle}
-use Rattle.crc.proofs.Occurrences.{occurrences, counted}
+use Rattle.base.proofs.Transform.{xor-false-r}
+use Rattle.crc.proofs.Occurrences.{occurrences}
 
 sum-false : (f : ℕ → Bool) (ks : List ℕ) (bs : List Bool) → ((k : ℕ) → f k ≡ false) → sum_into f ks bs ≡ false
 unfolding sum_into
@@ -14,60 +14,27 @@ sum-false f [] bs h = refl
 sum-false f (k ∷ ks) [] h = refl
 sum-false f (k ∷ ks) (b ∷ bs) h = ap₂ (λ x y. xor (x && b) y) (h k) (sum-false f ks bs h) ∙ xor-false-r false
 
-and_xor : (x y b : Bool) → (xor x y && b) ≡ xor (x && b) (y && b)
-unfolding xor
-and_xor true true true = refl
-and_xor true true false = refl
-and_xor true false true = refl
-and_xor true false false = refl
-and_xor false true true = refl
-and_xor false true false = refl
-and_xor false false true = refl
-and_xor false false false = refl
-
 sum-split : (f g h : ℕ → Bool) (ks : List ℕ) (bs : List Bool) → ((k : ℕ) → f k ≡ xor (g k) (h k))
     → sum_into f ks bs ≡ xor (sum_into g ks bs) (sum_into h ks bs)
-unfolding sum_into
-sum-split f g h [] bs e = sym (xor-false-r false)
-sum-split f g h (k ∷ ks) [] e = sym (xor-false-r false)
-sum-split f g h (k ∷ ks) (b ∷ bs) e =
-    ap₂ xor (ap (λ x. x && b) (e k) ∙ and_xor (g k) (h k) b) (sum-split f g h ks bs e)
-    ∙ xor-middle (g k && b) (h k && b) (sum_into g ks bs) (sum_into h ks bs)
+unfolding sum_into xor
+sum-split f g h [] bs e = refl
+sum-split f g h (k ∷ ks) [] e = refl
+sum-split f g h (k ∷ ks) (b ∷ bs) e = grind (arith, nat_tests, e k, sum-split f g h ks bs e)
 
 sum-absent : (f g : ℕ → Bool) (n : ℕ) (ks : List ℕ) → occurrences n ks ≡ 0 → sum_into (λ k. eqb n k && f k) ks (map g ks) ≡ false
-unfolding sum_into occurrences
+unfolding sum_into occurrences xor
 sum-absent f g n [] h = refl
-sum-absent f g n (k ∷ ks) h =
-    ⊎_elim
-    (λ e. let o : counted (eqb n k) ≡ 1 = ap counted (eq-eqb n k e) in absurd (omega arith))
-    (λ d. ap₂ (λ x y. xor ((x && f k) && g k) y) (ne_eqb n k d) (sum-absent f g n ks (omega arith)) ∙ xor-false-r false)
-    (cases_eq n k)
+sum-absent f g n (k ∷ ks) h = grind (arith, nat_tests, sum-absent f g n ks)
 
 sum-once : (f g : ℕ → Bool) (n : ℕ) (ks : List ℕ) → occurrences n ks ≡ 1
     → sum_into (λ k. eqb n k && f k) ks (map g ks) ≡ (f n && g n)
-unfolding sum_into occurrences
+unfolding sum_into occurrences xor
 sum-once f g n [] h = absurd (omega arith)
-sum-once f g n (k ∷ ks) h =
-    ⊎_elim
-    (λ e. let o : counted (eqb n k) ≡ 1 = ap counted (eq-eqb n k e) in
-    ap₂ (λ x y. xor ((x && f k) && g k) y) (eq-eqb n k e) (sum-absent f g n ks (omega arith))
-    ∙ xor-false-r (f k && g k) ∙ sym (ap (λ m. f m && g m) e))
-    (λ d. let o : counted (eqb n k) ≡ 0 = ap counted (ne_eqb n k d) in
-    ap₂ (λ x y. xor ((x && f k) && g k) y) (ne_eqb n k d) (sum-once f g n ks (omega arith)) ∙ xor-false-l (f n && g n))
-    (cases_eq n k)
+sum-once f g n (k ∷ ks) h = grind (arith, nat_tests, sum-once f g n ks, sum-absent f g n ks)
 
 below_more : (f : ℕ → Bool) (n k : ℕ) → (ltb k (suc n) && f k) ≡ xor (ltb k n && f k) (eqb n k && f k)
-below_more f n k =
-    ⊎_elim
-    (λ l. ap (λ t. t && f k) (lt-ltb k (suc n) (omega arith))
-    ∙ sym (ap₂ (λ x y. xor (x && f k) (y && f k)) (lt-ltb k n l) (ne_eqb n k (λ e. omega arith)) ∙ xor-false-r (f k)))
-    (λ g. ⊎_elim
-    (λ e. ap (λ t. t && f k) (lt-ltb k (suc n) (omega arith))
-    ∙ sym (ap₂ (λ x y. xor (x && f k) (y && f k)) (le-ltb k n g) (eq-eqb n k e) ∙ xor-false-l (f k)))
-    (λ d. ap (λ t. t && f k) (le-ltb k (suc n) (omega arith))
-    ∙ sym (ap₂ (λ x y. xor (x && f k) (y && f k)) (le-ltb k n g) (ne_eqb n k d) ∙ xor-false-r false))
-    (cases_eq n k))
-    (cases_lt k n)
+unfolding xor
+below_more f n k = grind (arith, nat_tests)
 
 -- where each number below n occurs once, a sum through the order is the sum over the numbers
 pub sum_below : (f g : ℕ → Bool) (ks : List ℕ) (n : ℕ) → ((k : ℕ) → k < n → occurrences k ks ≡ 1)
@@ -81,12 +48,12 @@ sum_below f g ks (suc n) h =
 pub some-map : (f : ℕ → Bool → Bool) (g : ℕ → Bool) (ks : List ℕ) → ((k : ℕ) → f k (g k) ≡ false) → some_bit f ks (map g ks) ≡ false
 unfolding some_bit
 some-map f g [] h = refl
-some-map f g (k ∷ ks) h = or_from (f k (g k)) (some_bit f ks (map g ks)) (h k) (some-map f g ks h)
+some-map f g (k ∷ ks) h = grind (arith, nat_tests, h k, some-map f g ks h)
 
 pub some_at : (f : ℕ → Bool → Bool) (ks : List ℕ) (bs : List Bool) (m : ℕ) → some_bit f ks bs ≡ false → m < length ks → m < length bs
     → f (get_or ks m 0) (get_or bs m false) ≡ false
 unfolding some_bit
 some_at f [] bs m h l r = absurd (omega arith)
 some_at f (k ∷ ks) [] m h l r = absurd (omega arith)
-some_at f (k ∷ ks) (b ∷ bs) zero h l r = (or_parts (f k b) (some_bit f ks bs) h).0
-some_at f (k ∷ ks) (b ∷ bs) (suc m) h l r = some_at f ks bs m (or_parts (f k b) (some_bit f ks bs) h).1 (omega arith) (omega arith)
+some_at f (k ∷ ks) (b ∷ bs) zero h l r = grind (arith, nat_tests)
+some_at f (k ∷ ks) (b ∷ bs) (suc m) h l r = grind (arith, nat_tests, some_at f ks bs m)

@@ -2,14 +2,14 @@
 use Rattle.std.proofs.Common.{◌≡◌, ℕ, ◌+◌, ◌-◌, ◌<◌, ◌≤◌, Bool, true, false, ◌&&◌, ltb, leb, List, [], ◌∷◌, ◌++◌, map, length, get_or, take, replicate, sym, refl, ap, ◌∙◌, ap₂, ⊎_elim, arith}
 use mathlib.Core.Bool.{xor}
 use Rattle.base.specs.Counts.{xor_below}
-use Rattle.std.proofs.lemmas.Bool.{le-leb, lt-leb, le-ltb, cases_lt, and_parts, and_from, not-true, not_from_false}
+use Rattle.std.proofs.lemmas.Bool.{le-leb, lt-leb, cases_lt, and_from, not_from_false}
 use Rattle.std.proofs.lemmas.List.{ext_get_or, length-map, get_or-map, get_or_append_left, get_or-append_right}
 use Rattle.std.proofs.lemmas.List.FromFn.{get_or-map-range_with_len, length-map-range_with_len, fill_by_all}
 use Rattle.std.proofs.lemmas.Bool.Decides.{nat_tests}
 use Rattle.crc.specs.Division.{remainder}
 use Rattle.crc.specs.Spread.{width, longest, divisor, single, rows, enters, struck, order, interleaved, place_of, deinterleaved, sum_into, some_bit, enters_at, disagrees, broken, sound}
 use Rattle.crc.specs.declared.spread.Spread.{Spread}
-use Rattle.crc.proofs.Fitting.{fitting-tells, fitting-from}
+use Rattle.crc.proofs.Fitting.{fitting-from}
 use Rattle.base.proofs.Transform.{xor-false-l, xor-below-same}
 use Rattle.crc.proofs.Xors.{xor_same, xor-equal}
 use Rattle.crc.proofs.Linear.{lone, remainder-sum, remainder-zeros}
@@ -42,7 +42,7 @@ order-each c a m h l =
 
 enters-beyond : (c : Spread) (a j i : ℕ) → a ≤ i → enters_at c a j i ≡ false
 unfolding enters_at
-enters-beyond c a j i h = ap (λ t. t && enters (rows c) (longest c - a + i) j) (le-ltb i a h)
+enters-beyond c a j i h = grind (arith, nat_tests)
 
 same-below : (k s a h : ℕ) → s ≤ k → s + a ≡ h → ltb (k - s) a ≡ ltb k h
 same-below k s a h l e = grind (arith, nat_tests)
@@ -52,7 +52,7 @@ pub enters-struck : (c : Spread) (a j k : ℕ) → a ≤ longest c → longest c
 unfolding enters_at
 enters-struck c a j k h l =
     let e : longest c - a + (k - (longest c - a)) ≡ k = omega arith in
-    ap₂ (λ t i. t && enters (rows c) i j) (same-below k (longest c - a) a (longest c) l (omega arith)) e
+    grind (arith, nat_tests, e)
 
 order-settled : (c : Spread) (a : ℕ) → a ≤ longest c → settled a (enters_at c a) (order c a) ≡ true
 order-settled c a h =
@@ -149,10 +149,7 @@ interleaved-reads-back c p h =
 pub sound-parts : (c : Spread) (a : ℕ) (w : List Bool) → sound c a w ≡ true
     → (a ≤ longest c) × (length w ≡ a + width c) × (broken c a w ≡ false)
 unfolding sound
-sound-parts c a w h =
-    let p = and_parts _ _ h in
-    let f = fitting-tells (longest c) (width c) a (length w) p.0 in
-    (f.0, f.1, not-true _ p.1)
+sound-parts c a w h = grind (arith, nat_tests)
 
 pub sound-hopeful : (c : Spread) (a : ℕ) (w : List Bool) (m : ℕ) → sound c a w ≡ true → broken c a (take m w) ≡ false
 sound-hopeful c a w m h =
@@ -209,4 +206,4 @@ sound-interleaved c a w h =
 
 pub unbroken-beyond : (c : Spread) (a : ℕ) (b : List Bool) → longest c < a → broken c a b ≡ false
 unfolding broken
-unbroken-beyond c a b h = ap (λ t. t && some_bit (disagrees c a b) (order c a) b) (lt-leb a (longest c) h)
+unbroken-beyond c a b h = grind (arith, nat_tests)

@@ -1,40 +1,37 @@
 -- The remainder is linear: it is the sum of the remainders of the payload's single ones. Assumes nothing.
 use Rattle.std.proofs.Common.{◌≡◌, ℕ, zero, suc, ◌+◌, ◌-◌, Bool, true, false, cond, ◌&&◌, List, [], ◌∷◌, ◌++◌, length, get_or, replicate, sym, refl, ap, ◌∙◌, ap₂, arith, length-append}
 use mathlib.Core.Bool.{xor}
+use Rattle.std.proofs.lemmas.Bool.Decides.{nat_tests}
 use lib.ListN.{length-replicate}
-use Rattle.std.proofs.Math.Bool.{and-true, and-false}
+use Rattle.std.proofs.lemmas.List.{replicate-append-replicate}
 use Rattle.base.specs.Counts.{xor_below}
 use Rattle.crc.specs.Division.{added, divided, remainder}
 use Rattle.crc.proofs.Remainders.{length-added, length-chosen, length-remainder}
-use Rattle.base.proofs.Transform.{xor_assoc, xor-false-l, xor-below-same}
-use Rattle.crc.proofs.Xors.{xor_comm, xor_same, xor_below-first}
+use Rattle.base.proofs.Transform.{xor-false-l, xor-below-same}
+use Rattle.crc.proofs.Xors.{xor_below-first}
 
 -- additions in either order
 pub added-left : (ds xs ys : List Bool) → length xs ≡ length ys → added ds (added xs ys) ≡ added (added ds xs) ys
-unfolding added
+unfolding added xor
 added-left [] xs ys h = refl
 added-left (d ∷ ds) [] [] h = refl
 added-left (d ∷ ds) [] (y ∷ ys) h = absurd (omega arith)
 added-left (d ∷ ds) (x ∷ xs) [] h = absurd (omega arith)
-added-left (d ∷ ds) (x ∷ xs) (y ∷ ys) h =
-    ap₂ (λ b l. b ∷ l) (sym (xor_assoc d x y)) (added-left ds xs ys (omega arith))
+added-left (d ∷ ds) (x ∷ xs) (y ∷ ys) h = grind (arith, nat_tests, added-left ds xs ys)
 
 pub added-right : (ds xs ys : List Bool) → length xs ≡ length ys → added ds (added xs ys) ≡ added xs (added ds ys)
-unfolding added
+unfolding added xor
 added-right [] xs ys h = refl
 added-right (d ∷ ds) [] [] h = refl
 added-right (d ∷ ds) [] (y ∷ ys) h = absurd (omega arith)
 added-right (d ∷ ds) (x ∷ xs) [] h = absurd (omega arith)
-added-right (d ∷ ds) (x ∷ xs) (y ∷ ys) h =
-    ap₂ (λ b l. b ∷ l) (sym (xor_assoc d x y) ∙ ap (λ b. xor b y) (xor_comm d x) ∙ xor_assoc x d y)
-    (added-right ds xs ys (omega arith))
+added-right (d ∷ ds) (x ∷ xs) (y ∷ ys) h = grind (arith, nat_tests, added-right ds xs ys)
 
 added_twice : (ds ys : List Bool) → added ds (added ds ys) ≡ ys
 unfolding added xor
 added_twice [] ys = refl
 added_twice (d ∷ ds) [] = refl
-added_twice (d ∷ ds) (y ∷ ys) =
-    ap₂ (λ b l. b ∷ l) (sym (xor_assoc d d y) ∙ ap (λ b. xor b y) (xor_same d) ∙ xor-false-l y) (added_twice ds ys)
+added_twice (d ∷ ds) (y ∷ ys) = grind (arith, nat_tests, added_twice ds ys)
 
 chosen-added : (ds xs ys : List Bool) (x y : Bool) → length xs ≡ length ys
     → cond (xor x y) (added ds (added xs ys)) (added xs ys) ≡ added (cond x (added ds xs) xs) (cond y (added ds ys) ys)
@@ -78,12 +75,6 @@ get_or-zeros zero j = refl
 get_or-zeros (suc n) zero = refl
 get_or-zeros (suc n) (suc j) = get_or-zeros n j
 
-zeros-append : (n m : ℕ) → replicate n false ++ replicate m false ≡ replicate (n + m) false
-zeros-append zero m = ap (λ k. replicate k false) (omega arith)
-zeros-append (suc n) m =
-    let e : suc n + m ≡ suc (n + m) = omega arith in
-    ap (λ l. false ∷ l) (zeros-append n m) ∙ sym (ap (λ k. replicate k false) e)
-
 -- the remainder of a one that n bits follow
 abbrev pub lone : List Bool → ℕ → List Bool
 lone ds n = remainder ds (true ∷ replicate n false)
@@ -99,7 +90,7 @@ divided-one ds p =
     let lz : length Z ≡ length ys =
     length-append (replicate n false) (replicate l false) ∙ ap (λ k. k + length (replicate l false)) (length-replicate n false)
     ∙ sym (length-append p (replicate l false)) in
-    let y : added Z ys ≡ ys = ap (λ z. added z ys) (zeros-append n l) ∙ added-zeros (n + l) ys in
+    let y : added Z ys ≡ ys = ap (λ z. added z ys) (replicate-append-replicate n l false) ∙ added-zeros (n + l) ys in
     let e : length (replicate n false) ≡ n = length-replicate n false in
     ap (λ t. divided ds n (added ds t)) (sym y) ∙ ap (divided ds n) (added-left ds Z ys lz)
     ∙ divided-added ds n (added ds Z) ys (length-added ds Z ∙ lz)
@@ -110,11 +101,9 @@ length-lone ds p = length-remainder ds (true ∷ replicate (length p) false) ∙
 
 remainder-first : (ds p : List Bool) (b : Bool) (j : ℕ)
     → get_or (remainder ds (b ∷ p)) j false ≡ xor (get_or (lone ds (length p)) j false && b) (get_or (remainder ds p) j false)
-unfolding divided
-remainder-first ds p true j =
-    ap (λ l. get_or l j false) (divided-one ds p) ∙ get_or-added (lone ds (length p)) (remainder ds p) j (length-lone ds p)
-    ∙ ap (λ x. xor x (get_or (remainder ds p) j false)) (sym (and-true (get_or (lone ds (length p)) j false)))
-remainder-first ds p false j = sym (ap (λ x. xor x (get_or (remainder ds p) j false)) (and-false (get_or (lone ds (length p)) j false)) ∙ xor-false-l (get_or (remainder ds p) j false))
+unfolding divided xor
+remainder-first ds p true j = grind (arith, nat_tests, divided-one ds p, get_or-added (lone ds (length p)) (remainder ds p) j, length-lone ds p)
+remainder-first ds p false j = grind (arith, nat_tests)
 
 pub remainder-sum : (ds p : List Bool) (j : ℕ)
     → get_or (remainder ds p) j false ≡ xor_below (λ i. get_or (lone ds (length p - 1 - i)) j false && get_or p i false) (length p)

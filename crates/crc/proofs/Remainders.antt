@@ -1,6 +1,7 @@
 -- Lengths of a long division, its steps in place, and equality of bits as a test. Assumes nothing.
 use Rattle.std.proofs.Common.{◌≡◌, ℕ, zero, suc, ◌+◌, ◌-◌, ◌<◌, ◌≤◌, Bool, true, false, cond, not, List, [], ◌∷◌, ◌++◌, length, get_or, take, drop, set, replicate, Decides, sym, refl, ap, ◌∙◌, arith, length-append}
 use mathlib.Core.Bool.{xor, beq}
+use Rattle.std.proofs.lemmas.Bool.Decides.{nat_tests}
 use lib.ListN.{length-replicate}
 use borrow.Rule.Slice.PartMut.{put_mid}
 use Rattle.std.proofs.lemmas.List.{take_more_set, drop_more, drop-set-lt, append_assoc, append-nil, drop_at, drop_all, length-take-le, length-drop, take_rest}
@@ -38,18 +39,14 @@ length-remainder ds p =
 pub same-itself : (xs : List Bool) → same_bits xs xs ≡ true
 unfolding same_bits xor
 same-itself [] = refl
-same-itself (true ∷ xs) = same-itself xs
-same-itself (false ∷ xs) = same-itself xs
+same-itself (x ∷ xs) = grind (arith, nat_tests, same-itself xs)
 
 pub same-equal : (xs ys : List Bool) → same_bits xs ys ≡ true → xs ≡ ys
 unfolding same_bits xor
 same-equal [] [] h = refl
 same-equal [] (y ∷ ys) h = cc
 same-equal (x ∷ xs) [] h = cc
-same-equal (true ∷ xs) (true ∷ ys) h = ap (λ l. true ∷ l) (same-equal xs ys h)
-same-equal (false ∷ xs) (false ∷ ys) h = ap (λ l. false ∷ l) (same-equal xs ys h)
-same-equal (true ∷ xs) (false ∷ ys) h = cc
-same-equal (false ∷ xs) (true ∷ ys) h = cc
+same-equal (x ∷ xs) (y ∷ ys) h = grind (arith, nat_tests, same-equal xs ys)
 
 pub same-decides : (xs ys : List Bool) → Decides (same_bits xs ys) (xs ≡ ys)
 same-decides xs ys = (same-equal xs ys, λ e. rw e (same-itself ys))
@@ -57,10 +54,7 @@ same-decides xs ys = (same-equal xs ys, λ e. rw e (same-itself ys))
 -- how the code's exclusive or reads
 pub unlike-xor : (x y : Bool) → not (beq x y) ≡ xor y x
 unfolding xor
-unlike-xor true true = refl
-unlike-xor true false = refl
-unlike-xor false true = refl
-unlike-xor false false = refl
+unlike-xor x y = grind (arith, nat_tests)
 
 -- one turn of an addition in place
 pub add_step : (ds bs : List Bool) (k : ℕ) (v : Bool) → k < length ds → k < length bs

@@ -1,8 +1,8 @@
 -- A word written bit by bit to the indices that an order names. Assumes nothing.
-use Rattle.std.proofs.Common.{◌≡◌, ℕ, ◌<◌, ◌≤◌, Bool, false, eqb, List, [], ◌∷◌, map, length, get_or, set, sym, refl, ap, ◌∙◌, ⊎_elim, arith, length-set}
+use Rattle.std.proofs.Common.{◌≡◌, ℕ, ◌<◌, ◌≤◌, Bool, false, List, [], ◌∷◌, map, length, get_or, set, refl, ◌∙◌, arith, length-set}
 use Rattle.std.proofs.lemmas.List.{get_or-set_same, get_or-set_other}
-use Rattle.std.proofs.lemmas.Bool.{ne_eqb, cases_eq}
-use Rattle.crc.proofs.Occurrences.{occurrences, counted}
+use Rattle.std.proofs.lemmas.Bool.Decides.{nat_tests}
+use Rattle.crc.proofs.Occurrences.{occurrences}
 
 unfoldable pub scattered : List ℕ → List Bool → List Bool → List Bool
 scattered [] bs out = out
@@ -20,19 +20,10 @@ pub scattered-kept : (g : ℕ → Bool) (ks : List ℕ) (out : List Bool) (i : �
     → get_or (scattered ks (map g ks) out) i false ≡ g i
 unfolding scattered
 scattered-kept g [] out i l h = h
-scattered-kept g (k ∷ ks) out i l h =
-    scattered-kept g ks (set out k (g k)) i (omega (arith, length-set out k (g k)))
-    (⊎_elim (λ e. ap (λ m. get_or (set out m (g m)) i false) (sym e) ∙ get_or-set_same out i (g i) false l)
-    (λ d. get_or-set_other out k i (g k) false d ∙ h) (cases_eq i k))
+scattered-kept g (k ∷ ks) out i l h = grind (arith, nat_tests, length-set out k (g k), get_or-set_same out k (g k) false, get_or-set_other out k i (g k) false, scattered-kept g ks (set out k (g k)) i)
 
 pub scattered-at : (g : ℕ → Bool) (ks : List ℕ) (out : List Bool) (i : ℕ) → i < length out → 1 ≤ occurrences i ks
     → get_or (scattered ks (map g ks) out) i false ≡ g i
 unfolding scattered occurrences
 scattered-at g [] out i l h = absurd (omega arith)
-scattered-at g (k ∷ ks) out i l h =
-    ⊎_elim
-    (λ e. scattered-kept g ks (set out k (g k)) i (omega (arith, length-set out k (g k)))
-    (ap (λ m. get_or (set out m (g m)) i false) (sym e) ∙ get_or-set_same out i (g i) false l))
-    (λ d. let o : counted (eqb i k) ≡ 0 = ap counted (ne_eqb i k d) in
-    scattered-at g ks (set out k (g k)) i (omega (arith, length-set out k (g k))) (omega arith))
-    (cases_eq i k)
+scattered-at g (k ∷ ks) out i l h = grind (arith, nat_tests, length-set out k (g k), get_or-set_same out k (g k) false, scattered-kept g ks (set out k (g k)) i, scattered-at g ks (set out k (g k)) i)

@@ -5,13 +5,12 @@ use lib.Bits.{bit_and, and_mask}
 use Rattle.base.specs.Counts.{xor_below}
 use Rattle.std.proofs.lemmas.List.{take_more_set, take_all, append-nil, append_assoc, length-take, length-append}
 use Rattle.std.proofs.lemmas.List.FromFn.{fill_by_all}
-use Rattle.std.proofs.lemmas.Bool.{lt-ltb, le-ltb, le-leb, or_left}
+use Rattle.std.proofs.lemmas.Bool.Decides.{nat_tests}
+use Rattle.std.proofs.lemmas.Bool.{lt-ltb}
 use Rattle.crc.specs.Division.{remainder}
 use Rattle.base.specs.Bits.{bit_of}
 use Rattle.crc.specs.Spread.{width, longest, divisor, rows, enters, order, interleaved, place_of, deinterleaved, enters_at, broken}
 use Rattle.crc.specs.declared.spread.Spread.{Spread}
-use Rattle.crc.proofs.Xors.{xor_comm}
-use Rattle.crc.proofs.Remainders.{unlike-xor}
 use Rattle.crc.proofs.Occurrences.{occurrences, gathered}
 use Rattle.crc.proofs.Walks.{walk, walk_same}
 use Rattle.base.proofs.Bits.{bit-zero}
@@ -26,18 +25,17 @@ odd-bit n j = ap (λ x. eqb x 1) (and_mask (n / 2 ^ j) 1)
 -- the code's comparison of a check bit with its sum
 pub unlike-sum : (a sums k : ℕ) (v r : Bool) → a ≤ k → r ≡ bit_of sums (k - a)
     → not (beq v r) ≡ (leb a k && xor v (bit_of sums (k - a)))
-unlike-sum a sums k v r l b =
-    unlike-xor v r ∙ xor_comm r v ∙ ap (xor v) b
-    ∙ sym (ap (λ t. t && xor v (bit_of sums (k - a))) (le-leb a k l))
+unfolding xor
+unlike-sum a sums k v r l b = grind (arith, nat_tests)
 
 -- a payload bit's row, at its index in the longest payload
 pub row-entered : (c : Spread) (a i j row : ℕ) → i < a → bit_of row j ≡ enters (rows c) (longest c - a + i) j → bit_of row j ≡ enters_at c a j i
 unfolding enters_at
-row-entered c a i j row l e = e ∙ sym (ap (λ t. t && enters (rows c) (longest c - a + i) j) (lt-ltb i a l))
+row-entered c a i j row l e = grind (arith, nat_tests)
 
 pub check-enters-none : (c : Spread) (a i j : ℕ) → a ≤ i → enters_at c a j i ≡ false
 unfolding enters_at
-check-enters-none c a i j l = ap (λ t. t && enters (rows c) (longest c - a + i) j) (le-ltb i a l)
+check-enters-none c a i j l = grind (arith, nat_tests)
 
 -- ---- the check bits of a payload
 
@@ -80,7 +78,7 @@ judged-start c a ks b h e =
 pub judged-broken : (c : Spread) (a sums k : ℕ) (v d : Bool) (ks : List ℕ) (b : List Bool) → d ≡ (leb a k && xor v (bit_of sums (k - a))) → d ≡ true
     → judged c a sums (k ∷ ks) (v ∷ b) ≡ true
 unfolding walk
-judged-broken c a sums k v d ks b hd t = or_left _ _ (sym hd ∙ t)
+judged-broken c a sums k v d ks b hd t = grind (arith, nat_tests)
 
 pub judged-next : (c : Spread) (a sums r k : ℕ) (v d : Bool) (ks : List ℕ) (b : List Bool) → d ≡ (leb a k && xor v (bit_of sums (k - a))) → d ≡ false
     → ((j : ℕ) → bit_of r j ≡ xor (bit_of sums j) (enters_at c a j k && v)) → judged c a r ks b ≡ judged c a sums (k ∷ ks) (v ∷ b)
@@ -107,16 +105,22 @@ pub finishing-start : (c : Spread) (p w : List Bool) (ks : List ℕ) → ks ≡ 
 unfolding interleaved
 finishing-start c p w ks e = ap (map (whole c p)) e
 
-pub finishing-next : (c : Spread) (p w v : List Bool) (place k : ℕ) (ks : List ℕ) (r : Bool) → length p ≤ longest c
-    → length w ≡ length p + width c → r ≡ whole c p k → v ≡ set w place r → finishing c p w place (k ∷ ks) ≡ interleaved c p
-    → finishing c p v (place + 1) ks ≡ interleaved c p
-finishing-next c p w v place k ks r h lw hr hv inv =
+-- there is room for the next bit
+pub finishing-inside : (c : Spread) (p w : List Bool) (place k : ℕ) (ks : List ℕ) → length p ≤ longest c → length w ≡ length p + width c
+    → finishing c p w place (k ∷ ks) ≡ interleaved c p → place < length w
+finishing-inside c p w place k ks h lw inv =
     let g = whole c p in
     let n : length (take place w) + suc (length (map g ks)) ≡ length p + width c =
     sym (length-append (take place w) (g k ∷ map g ks)) ∙ ap length inv ∙ length-interleaved c p h in
     let t = length-take place w in
-    let l : place < length w = omega arith in
-    ap (λ x. take (place + 1) x ++ map g ks) hv ∙ ap (λ x. x ++ map g ks) (take_more_set w place r l)
+    omega arith
+
+pub finishing-next : (c : Spread) (p w v : List Bool) (place k : ℕ) (ks : List ℕ) (r : Bool) → place < length w
+    → r ≡ whole c p k → v ≡ set w place r → finishing c p w place (k ∷ ks) ≡ interleaved c p
+    → finishing c p v (place + 1) ks ≡ interleaved c p
+finishing-next c p w v place k ks r inside hr hv inv =
+    let g = whole c p in
+    ap (λ x. take (place + 1) x ++ map g ks) hv ∙ ap (λ x. x ++ map g ks) (take_more_set w place r inside)
     ∙ append_assoc (take place w) (r ∷ []) (map g ks) ∙ ap (λ x. take place w ++ x ∷ map g ks) hr ∙ inv
 
 pub finishing-done : (c : Spread) (p w : List Bool) (place : ℕ) → length p ≤ longest c → length w ≡ length p + width c

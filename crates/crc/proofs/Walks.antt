@@ -1,10 +1,11 @@
 -- A beginning judged bit by bit with running sums, which is how the code judges it: that is the definition's test where
 -- every payload bit that enters a check bit stands before it. Assumes nothing.
-use Rattle.std.proofs.Common.{◌≡◌, ℕ, zero, suc, ◌+◌, ◌-◌, ◌≤◌, Bool, true, false, not, ◌&&◌, ◌||◌, ltb, leb, List, [], ◌∷◌, take, sym, refl, ap, ◌∙◌, ap₂, ⊎_elim, arith}
+use Rattle.std.proofs.Common.{◌≡◌, ℕ, zero, suc, ◌+◌, ◌-◌, ◌≤◌, Bool, true, false, not, ◌&&◌, ◌||◌, ltb, leb, List, [], ◌∷◌, take, refl, ap, ◌∙◌, ap₂, arith}
 use mathlib.Core.Bool.{xor}
-use Rattle.std.proofs.lemmas.Bool.{lt-leb, lt-ltb, le-ltb, cases_lt, and_parts, and_from, or_parts, or_cases, or_from, or_right, or_left, not-true, both_ways}
+use Rattle.std.proofs.lemmas.Bool.Decides.{nat_tests}
+use Rattle.std.proofs.lemmas.Bool.{and_parts, not-true}
 use Rattle.crc.specs.Spread.{struck, sum_into, some_bit}
-use Rattle.base.proofs.Transform.{xor_assoc, xor-false-r}
+use Rattle.base.proofs.Transform.{xor_assoc}
 use Rattle.crc.proofs.Occurrences.{struck-in, struck-out, struck-nil}
 
 -- a is the number of payload bits, M j k says whether payload bit k enters check bit j, acc has the sums so far
@@ -50,15 +51,8 @@ sum-none f (k ∷ ks) (b ∷ bs) h =
 first_bit : (a k : ℕ) (M : ℕ → ℕ → Bool) (acc : ℕ → Bool) (ks : List ℕ) (b : Bool) (bs : List Bool)
     → ((j i : ℕ) → a ≤ i → M j i ≡ false) → (ltb k a || none_has (M (k - a)) ks) ≡ true
     → (leb a k && xor b (acc (k - a))) ≡ (leb a k && xor b (xor (acc (k - a)) (xor (M (k - a) k && b) (sum_into (M (k - a)) ks bs))))
-first_bit a k M acc ks b bs m h =
-    ⊎_elim
-    (λ l. ap (λ t. t && xor b (acc (k - a))) (lt-leb a k l)
-    ∙ sym (ap (λ t. t && xor b (xor (acc (k - a)) (xor (M (k - a) k && b) (sum_into (M (k - a)) ks bs)))) (lt-leb a k l)))
-    (λ g. let n : none_has (M (k - a)) ks ≡ true = ⊎_elim (λ e. absurd (both_ways (ltb k a) (le-ltb k a g) e)) (λ e. e) (or_cases (ltb k a) (none_has (M (k - a)) ks) h) in
-    let z : xor (M (k - a) k && b) (sum_into (M (k - a)) ks bs) ≡ false =
-    ap₂ (λ x y. xor (x && b) y) (m (k - a) k g) (sum-none (M (k - a)) ks bs n) ∙ xor-false-r false in
-    ap (λ x. leb a k && xor b x) (sym (xor-false-r (acc (k - a))) ∙ ap (xor (acc (k - a))) (sym z)))
-    (cases_lt k a)
+unfolding xor
+first_bit a k M acc ks b bs m h = grind (arith, nat_tests, m, sum-none)
 
 pub walk-some : (a : ℕ) (M : ℕ → ℕ → Bool) (acc : ℕ → Bool) (ks : List ℕ) (bs : List Bool)
     → ((j i : ℕ) → a ≤ i → M j i ≡ false) → settled a M ks ≡ true
@@ -82,41 +76,18 @@ unfolding walk
 walk-take a M acc [] bs m h = refl
 walk-take a M acc (k ∷ ks) bs zero h = refl
 walk-take a M acc (k ∷ ks) [] (suc m) h = refl
-walk-take a M acc (k ∷ ks) (b ∷ bs) (suc m) h =
-    let p = or_parts (leb a k && xor b (acc (k - a))) (walk a M (λ j. xor (acc j) (M j k && b)) ks bs) h in
-    or_from (leb a k && xor b (acc (k - a))) (walk a M (λ j. xor (acc j) (M j k && b)) ks (take m bs)) p.0
-    (walk-take a M (λ j. xor (acc j) (M j k && b)) ks bs m p.1)
+walk-take a M acc (k ∷ ks) (b ∷ bs) (suc m) h = grind (arith, nat_tests, walk-take a M (λ j. xor (acc j) (M j k && b)) ks bs m)
 
 none-struck : (s : ℕ) (f g : ℕ → Bool) (ks : List ℕ) → ((k : ℕ) → s ≤ k → g (k - s) ≡ f k) → none_has f ks ≡ true
     → none_has g (struck s ks) ≡ true
 unfolding none_has
 none-struck s f g [] e h = ap (none_has g) (struck-nil s)
-none-struck s f g (k ∷ ks) e h =
-    let p = and_parts (not (f k)) (none_has f ks) h in
-    ⊎_elim
-    (λ l. ap (none_has g) (struck-out s k ks l) ∙ none-struck s f g ks e p.1)
-    (λ i. ap (none_has g) (struck-in s k ks i)
-    ∙ and_from (not (g (k - s))) (none_has g (struck s ks)) (ap not (e k i) ∙ p.0) (none-struck s f g ks e p.1))
-    (cases_lt k s)
+none-struck s f g (k ∷ ks) e h = grind (arith, nat_tests, struck-in s k ks, struck-out s k ks, e k, none-struck s f g ks e)
 
 pub settled-struck : (s a h : ℕ) (M N : ℕ → ℕ → Bool) (ks : List ℕ) → s + a ≡ h
     → ((j k : ℕ) → s ≤ k → N j (k - s) ≡ M j k) → settled h M ks ≡ true → settled a N (struck s ks) ≡ true
 unfolding settled
 settled-struck s a h M N [] q e t = ap (settled a N) (struck-nil s)
 settled-struck s a h M N (k ∷ ks) q e t =
-    let p = and_parts (ltb k h || none_has (M (k - h)) ks) (settled h M ks) t in
-    let rest = settled-struck s a h M N ks q e p.1 in
-    ⊎_elim
-    (λ l. ap (settled a N) (struck-out s k ks l) ∙ rest)
-    (λ i. ap (settled a N) (struck-in s k ks i)
-    ∙ and_from (ltb (k - s) a || none_has (N (k - s - a)) (struck s ks)) (settled a N (struck s ks))
-    (⊎_elim
-    (λ y. or_left (ltb (k - s) a) (none_has (N (k - s - a)) (struck s ks)) (lt-ltb (k - s) a (omega arith)))
-    (λ n. let j : k - s - a ≡ k - h = omega arith in
-    or_right (ltb (k - s) a) (none_has (N (k - s - a)) (struck s ks))
-    (ap (λ v. none_has (N v) (struck s ks)) j
-    ∙ none-struck s (M (k - h)) (N (k - h)) ks (e (k - h))
-    (⊎_elim (λ y. absurd (both_ways (ltb k h) (le-ltb k h n) y)) (λ y. y) (or_cases (ltb k h) (none_has (M (k - h)) ks) p.0))))
-    (cases_lt k h))
-    rest)
-    (cases_lt k s)
+    let j : k - s - a ≡ k - h = omega arith in
+    grind (arith, nat_tests, struck-in s k ks, struck-out s k ks, j, none-struck s (M (k - h)) (N (k - h)) ks (e (k - h)), settled-struck s a h M N ks q e)

@@ -7,6 +7,7 @@ fn add_onto(bits: &mut [bool], divisor: &[bool])
     requires room { length divisor.now ≤ length bits.old }
     ensures { bits.new ≡ added divisor.now bits.old }
 {
+    // by index: behind a zip with iter_mut a proof loses what is written
     for (k, d) in divisor.iter().enumerate() {
         bits[k] ^= *d;
     }

@@ -1,5 +1,5 @@
 // The layout of a spread word for payloads of one length: judging, finishing and reading along its bits. Assumes nothing.
-ghost use Rattle.std.specs.Prelude.{◌≡◌, ℕ, ◌+◌, ◌-◌, ◌≤◌, false, ◌&&◌, ◌++◌, length, IfOk, is_ok, nat_le, slice_index_or, slice_set};
+ghost use Rattle.std.specs.Prelude.{◌≡◌, ℕ, ◌+◌, ◌-◌, ◌≤◌, false, ◌&&◌, ◌++◌, length, IfOk, is_ok, nat_le, slice_index_or};
 ghost use Rattle.std.specs.Bool.{xor};
 ghost use Rattle.base.specs.Bits.{bit_of};
 ghost use Rattle.crc.specs.Division.{remainder};
@@ -60,8 +60,9 @@ impl Layout {
         ensures { word.new ≡ interleaved self.kind payload.now }
     {
         let sums = self.check_bits(payload);
+        // by place: behind a zip with iter_mut a proof loses what is written
         for (place, bit) in self.bits().enumerate() {
-            put(word, place, self.value_of(payload, sums, bit));
+            word[place] = self.value_of(payload, sums, bit);
         }
     }
 
@@ -71,7 +72,9 @@ impl Layout {
         ensures { payload.new ≡ deinterleaved self.kind self.payload_bits word.now }
     {
         for (bit, value) in self.bits().zip(word) {
-            put(payload, bit, *value);
+            if bit < payload.len() {
+                payload[bit] = *value;
+            }
         }
     }
 
@@ -140,13 +143,4 @@ fn odd(sums: u32, j: usize) -> bool
     ensures { result ≡ bit_of sums j }
 {
     j < 32 && (sums >> j) & 1 == 1
-}
-
-// Writes a bit where the buffer has such an index.
-fn put(bits: &mut [bool], i: usize, value: bool)
-    ensures { bits.new ≡ slice_set bits.old i value }
-{
-    if i < bits.len() {
-        bits[i] = value;
-    }
 }

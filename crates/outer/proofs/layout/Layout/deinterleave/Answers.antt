@@ -1,7 +1,7 @@
-use Rattle.std.proofs.Common.{◌≡◌, sym, ap, ap₂, ◌∙◌, ⊎_elim, rules}
+use Rattle.std.proofs.Common.{◌≡◌, sym, refl, ap, ap₂, ◌∙◌, ⊎_elim, rules}
 use Rattle.std.specs.Iterator.Adapters.{zip_first, zip_second}
 use Rattle.std.specs.Slice.Iter.{iter_rest}
-use Rattle.std.proofs.lemmas.List.{nil_from_length}
+use Rattle.std.proofs.lemmas.List.{nil_from_length, set_past}
 use Rattle.crc.specs.Spread.{order}
 use Rattle.crc.proofs.Scatters.{scattered}
 use Rattle.crc.proofs.Turns.{reading-start, reading-next, reading-bare, reading-short}
@@ -17,9 +17,15 @@ loop-bit-init c =
     ap (λ bs. scattered (left (zip_first c.into_iter-bit-iterator.result)) bs c.args.payload.now) values
     ∙ reading-start kind a _ c.args.word.now c.args.payload.now c.args.self.taken c.requires.word c.requires.payload bits
 
+pub loop-bit-preserved-then-bit-payload : goal.loop-bit-preserved-then-bit-payload
+loop-bit-preserved-then-bit-payload c =
+    reading-next c.in-Some.bit _ c.in-Some.value.now _ c.loop-bit.payload _ refl
+    ∙ sym (ap₂ (λ ks bs. scattered ks bs c.loop-bit.payload) c.in-Some.ensures.steps.0 c.in-Some.ensures.steps.1) ∙ c.loop-bit.invariant
+
 pub loop-bit-preserved : goal.loop-bit-preserved
 loop-bit-preserved c =
-    reading-next c.in-Some.bit _ c.in-Some.value.now _ c.loop-bit.payload c.put.new.bits c.put.ensures
+    reading-next c.in-Some.bit _ c.in-Some.value.now _ c.loop-bit.payload c.loop-bit.payload
+    (sym (set_past c.loop-bit.payload c.in-Some.bit c.in-Some.value.now c.if-bit-payload.false))
     ∙ sym (ap₂ (λ ks bs. scattered ks bs c.loop-bit.payload) c.in-Some.ensures.steps.0 c.in-Some.ensures.steps.1) ∙ c.loop-bit.invariant
 
 pub returns : goal.returns

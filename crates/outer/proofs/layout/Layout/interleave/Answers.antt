@@ -1,9 +1,9 @@
-use Rattle.std.proofs.Common.{◌≡◌, ◌+◌, ◌≤◌, length, set, sym, ap, ◌∙◌, inl, arith, rules}
+use Rattle.std.proofs.Common.{◌≡◌, ◌+◌, ◌≤◌, length, slice_set, sym, ap, ◌∙◌, inl, arith, rules}
 use Rattle.std.specs.Iterator.Adapters.{enumerate_source, enumerate_count}
 use Rattle.crc.specs.Spread.{width, longest, order}
 use Rattle.crc.proofs.Interleaving.{order-long}
 use Rattle.crc.proofs.Tables.{word-bounded}
-use Rattle.crc.proofs.Turns.{finishing, finishing-start, finishing-next, finishing-done}
+use Rattle.crc.proofs.Turns.{finishing, finishing-start, finishing-inside, finishing-next, finishing-done}
 use Rattle.outer.specs.Order.{left}
 use Rattle.outer.proofs.layout.Layout.interleave.Goals as goal
 
@@ -20,19 +20,33 @@ loop-place-init c =
           ∙ finishing-start kind c.args.payload.now c.args.word.now _ (bits ∙ ap (order kind) (sym c.requires.payload)),
     )
 
+pub bounds-word-place : goal.bounds-word-place
+bounds-word-place c =
+    let kind = c.args.self.kind in
+    let payload = c.args.payload.now in
+    let place = enumerate_count c.loop-place.place-iterator in
+    let steps = c.in-Some.ensures.steps in
+    omega (
+      arith,
+      steps.1,
+      finishing-inside kind payload c.loop-place.word place c.in-Some.bit _ (omega (arith, c.args.self.taken)) (omega arith)
+          (sym (ap (finishing kind payload c.loop-place.word place) steps.0) ∙ c.loop-place.invariant.2),
+    )
+
 pub loop-place-preserved : goal.loop-place-preserved
 loop-place-preserved c =
     let kind = c.args.self.kind in
     let payload = c.args.payload.now in
-    let taken : length payload ≤ longest kind = omega (arith, c.args.self.taken) in
+    let place = enumerate_count c.loop-place.place-iterator in
     let steps = c.in-Some.ensures.steps in
-    let written = c.put.ensures ∙ ap (λ n. set c.loop-place.word n c.value_of.result) steps.1 in
-    let before = sym (ap (finishing kind payload c.loop-place.word (enumerate_count c.loop-place.place-iterator)) steps.0) ∙ c.loop-place.invariant.2 in (
+    let inside = bounds-word-place c in
+    let written : slice_set c.loop-place.word c.in-Some.place c.value_of.result ≡ slice_set c.loop-place.word place c.value_of.result =
+    ap (λ n. slice_set c.loop-place.word n c.value_of.result) steps.1 in (
       search rules,
       search rules,
-      ap (λ n. finishing kind payload c.put.new.bits n (left (enumerate_source c.next.new.self))) steps.2
-          ∙ finishing-next kind payload c.loop-place.word c.put.new.bits (enumerate_count c.loop-place.place-iterator) c.in-Some.bit _ c.value_of.result
-          taken (omega arith) c.value_of.ensures written before,
+      ap (λ n. finishing kind payload (slice_set c.loop-place.word c.in-Some.place c.value_of.result) n (left (enumerate_source c.next.new.self))) steps.2
+          ∙ finishing-next kind payload c.loop-place.word _ place c.in-Some.bit _ c.value_of.result (omega (arith, steps.1)) c.value_of.ensures written
+          (sym (ap (finishing kind payload c.loop-place.word place) steps.0) ∙ c.loop-place.invariant.2),
     )
 
 pub returns : goal.returns
