@@ -35,7 +35,7 @@ impl fmt::Display for Account {
     }
 }
 
-// A line for each bit with the sum so far; answers the sum.
+// A line for each bit with the sum so far, which a loop carries from line to line; answers the sum.
 fn write_bits<W: fmt::Write>(
     f: &mut fmt::Formatter<W>,
     account: &Account,
