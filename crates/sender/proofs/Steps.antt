@@ -24,20 +24,13 @@ use Rattle.sender.specs.declared.failure.Failure.{Failure}
 use Rattle.sender.specs.declared.failure.Failure.TheVariants.{Refused, Memory}
 use Rattle.sender.specs.declared.request.Request.{Request}
 
--- no check has a payload of more than 512 bits, or more than 24 bits of its own
+-- no check has a payload of more than 512 bits
 pub longest-most : (code : CheckCode) → longest_payload code ≤ 512
 longest-most check.None = omega arith
 longest-most check.Trailing6 = omega arith
 longest-most check.Trailing11 = omega arith
 longest-most check.Spread4 = omega arith
 longest-most check.Spread24 = omega arith
-
-pub bits_most : (code : CheckCode) → check_bits code ≤ 24
-bits_most check.None = omega arith
-bits_most check.Trailing6 = omega arith
-bits_most check.Trailing11 = omega arith
-bits_most check.Spread4 = omega arith
-bits_most check.Spread24 = omega arith
 
 -- the front of a buffer, as a part of it is read
 pub front_length : {X : Type 0} (buffer : List X) (n : ℕ) → n ≤ length buffer → length (take (n - 0) (drop 0 buffer)) ≡ n
