@@ -1,21 +1,16 @@
 -- From a laid word to its code and its sent bits, and why each refusal is one of the request. Assumes nothing.
-use Rattle.std.proofs.Common.{◌≡◌, ℕ, zero, suc, ◌+◌, ◌-◌, ◌^◌, ◌<◌, ◌≤◌, Bool, cond, eqb, List, map, length, take, drop, Result, Some, None, Err, is_ok, OnOk, vec_items, sym, refl, ap, ◌∙◌, subst, inl, inr, arith, length-take}
-use lib.ListN.{length-map}
+use Rattle.std.proofs.Common.{◌≡◌, ℕ, zero, suc, ◌+◌, ◌^◌, ◌<◌, ◌≤◌, Bool, cond, List, map, length, Some, None, Err, vec_items, sym, refl, ap, ◌∙◌, subst, inl, inr, arith}
 use Rattle.std.proofs.lemmas.Bool.{lt-ltb}
 use Rattle.std.proofs.lemmas.Bool.Decides.{nat_tests}
 use Rattle.std.specs.List.{range_with_len}
 use Rattle.base.proofs.Transform.{code-bit-same}
 use Rattle.base.specs.declared.refusal.Refusal.{Refusal}
 use Rattle.block.specs.Checks.{finished_by}
-use Rattle.block.specs.Codes.{check_bits, longest_payload}
-use Rattle.block.specs.declared.code.CheckCode.{CheckCode}
-use Rattle.block.specs.declared.code.CheckCode.TheVariants as check
-use Rattle.code.specs.Laying.{plan_of, laid_at, bits_of, Fresh, Filled}
+use Rattle.block.specs.Codes.{longest_payload}
+use Rattle.code.specs.Laying.{plan_of, laid_at, Fresh, Filled}
 use Rattle.code.specs.Sending.{coded_plan, coded_at, byte_of, Transforms, SentBits, sending_verdict}
 use Rattle.code.specs.declared.coded.Coded.{Coded}
 use Rattle.code.specs.declared.laid.Laid.{Laid}
-use Rattle.crc.proofs.Fitting.{fitting-answered}
-use Rattle.crc.specs.Lengths.{fitting}
 use Rattle.plan.proofs.Sent.{plan-bounded, place_inside}
 use Rattle.plan.specs.Order.{sent_place}
 use Rattle.plan.specs.Plans.{log_length, block_length, sent_bits, place_of}
@@ -24,35 +19,6 @@ use Rattle.sender.specs.Sends.{laid_of, payload_verdict, PlanIs, LaidIs, CodeIs,
 use Rattle.sender.specs.declared.failure.Failure.{Failure}
 use Rattle.sender.specs.declared.failure.Failure.TheVariants.{Refused, Memory}
 use Rattle.sender.specs.declared.request.Request.{Request}
-
--- no check has a payload of more than 512 bits, or more than 24 bits of its own
-pub longest-most : (code : CheckCode) → longest_payload code ≤ 512
-longest-most check.None = omega arith
-longest-most check.Trailing6 = omega arith
-longest-most check.Trailing11 = omega arith
-longest-most check.Spread4 = omega arith
-longest-most check.Spread24 = omega arith
-
-pub bits_most : (code : CheckCode) → check_bits code ≤ 24
-bits_most check.None = omega arith
-bits_most check.Trailing6 = omega arith
-bits_most check.Trailing11 = omega arith
-bits_most check.Spread4 = omega arith
-bits_most check.Spread24 = omega arith
-
--- the front of a buffer, as a part of it is read
-pub front_length : {X : Type 0} (buffer : List X) (n : ℕ) → n ≤ length buffer → length (take (n - 0) (drop 0 buffer)) ≡ n
-front_length buffer n few = length-take (n - 0) buffer ∙ omega arith
-
--- a buffer of the word's length is filled by its check
-pub finished-is : {E : Type 0} (code : CheckCode) (payload : List ℕ) (bits before after : List Bool) (r : Result (Unit {0}) E) → bits ≡ bits_of payload
-    → length payload ≤ longest_payload code → length before ≡ length payload + check_bits code
-    → is_ok r ≡ fitting (longest_payload code) (check_bits code) (length bits) (length before)
-    → OnOk r (after ≡ finished_by code bits) → after ≡ finished_by code (bits_of payload)
-finished-is code payload bits before after r read taken whole answer filled =
-    let size : length bits ≡ length payload = ap length read ∙ length-map payload (λ b. eqb b 1) in
-    fitting-answered (longest_payload code) (check_bits code) (length bits) (length before) r answer (omega arith) (omega arith) filled
-    ∙ ap (finished_by code) read
 
 -- a payload that is laid is no longer than its check takes
 pub payload-taken : (plan : Plan) (request : Request) → payload_verdict plan request ≡ None

@@ -13,11 +13,6 @@ use outer::{Finish, Judge};
 use plan::Plan;
 use std::alloc::{AllocError, Global};
 
-// K and E at most
-const LONGEST_WORD: usize = 536;
-
-const MOST_SENT: usize = 8192;
-
 // Each byte as a bit.
 fn bits_of(heap: Global, bytes: &[u8]) -> Result<Vec<bool>, AllocError>
     ensures { IfOk result (λ v. v.items ≡ bits_of bytes.now) }
@@ -35,10 +30,9 @@ pub fn finished_word(
     ensures { IfOk result (λ v. v.items ≡ finished_by check (bits_of payload.now)) }
 {
     let bits = bits_of(heap, payload)?;
-    let mut word = [false; LONGEST_WORD];
-    let word = &mut word[0..payload.len() + check.check_bits()];
-    let _ = check.finish(bits.as_slice(), word);
-    Ok(Vec::from_slice(heap, word)?)
+    let mut word = Vec::from_elem(heap, false, payload.len() + check.check_bits())?;
+    let _ = check.finish(bits.as_slice(), word.as_mut_slice());
+    Ok(word)
 }
 
 // The first bits of a laid word.
@@ -52,8 +46,7 @@ pub fn laid_bits(heap: Global, word: &Laid, count: usize) -> Result<Vec<bool>, A
 pub fn sent_bits(heap: Global, plan: &Plan, code: &Coded) -> Result<Vec<u8>, Failure>
     ensures { SentFor plan.now code.now result }
 {
-    let mut bits = [0; MOST_SENT];
-    let bits = &mut bits[0..plan.sent_bits()];
-    code.send(bits)?;
-    Ok(Vec::from_slice(heap, bits)?)
+    let mut bits = Vec::from_elem(heap, 0, plan.sent_bits())?;
+    code.send(bits.as_mut_slice())?;
+    Ok(bits)
 }
