@@ -16,11 +16,11 @@ use Rattle.decoder.proofs.state.State.put_children.Goals as goal
 
 -- Frozen
 
-pub put_child-requires : goal.put_child-requires
-put_child-requires g c =
+pub put_child-requires-clause-costs : goal.put_child-requires-clause-costs
+put_child-requires-clause-costs g c =
     let r = c.requires in
     let v = c.decision-value in
-    record { place = r.place; ready = r.may.ready; costs = found-costs c.args.self.now c.args.c false c.contradiction.result v.result _ (search rules) v.ensures.value c.path-path.ensures c.contradiction.ensures r.place r.may.metric }
+    found-costs c.args.self.now c.args.c false c.contradiction.result v.result _ (search rules) v.ensures.value c.path-path.ensures c.contradiction.ensures r.place r.may.metric
 
 pub returns-in-Frozen : goal.returns-in-Frozen
 returns-in-Frozen g c =
@@ -37,11 +37,11 @@ returns-in-Frozen g c =
 
 -- Parity
 
-pub put_child-requires-in-Parity : goal.put_child-requires-in-Parity
-put_child-requires-in-Parity g c =
+pub put_child-requires-in-Parity-clause-costs : goal.put_child-requires-in-Parity-clause-costs
+put_child-requires-in-Parity-clause-costs g c =
     let r = c.requires in
     let v = c.decision-value in
-    record { place = r.place; ready = r.may.ready; costs = found-costs c.args.self.now c.args.c c.parity_sum-bit.result c.contradiction-in-Parity.result v.result _ (search rules) v.ensures.value c.path-path.ensures c.contradiction-in-Parity.ensures r.place r.may.metric }
+    found-costs c.args.self.now c.args.c c.parity_sum-bit.result c.contradiction-in-Parity.result v.result _ (search rules) v.ensures.value c.path-path.ensures c.contradiction-in-Parity.ensures r.place r.may.metric
 
 pub returns-in-Parity : goal.returns-in-Parity
 returns-in-Parity g c =
@@ -62,11 +62,11 @@ returns-in-Parity g c =
 
 -- Information
 
-pub put_child-requires-in-Information : goal.put_child-requires-in-Information
-put_child-requires-in-Information g c =
+pub put_child-requires-in-Information-clause-costs : goal.put_child-requires-in-Information-clause-costs
+put_child-requires-in-Information-clause-costs g c =
     let r = c.requires in
     let v = c.decision-value in
-    record { place = r.place; ready = r.may.ready; costs = found-costs c.args.self.now c.args.c false c.contradiction-in-Information.result v.result _ (search rules) v.ensures.value c.path-path.ensures c.contradiction-in-Information.ensures r.place r.may.metric }
+    found-costs c.args.self.now c.args.c false c.contradiction-in-Information.result v.result _ (search rules) v.ensures.value c.path-path.ensures c.contradiction-in-Information.ensures r.place r.may.metric
 
 pub put_child-requires-in-Information-2 : goal.put_child-requires-in-Information-2
 put_child-requires-in-Information-2 g c =
