@@ -1,8 +1,9 @@
 -- A whole step, from what its parts promise. Assumes nothing.
-use Rattle.std.proofs.Common.{◌≡◌, ℕ, suc, ◌+◌, ◌*◌, ◌^◌, ◌<◌, ◌≤◌, Bool, true, eqb, List, [], ◌∷◌, map, length, Some, None, Option, sym, refl, ap, ◌∙◌, subst, ap₂, arith}
+use Rattle.std.proofs.Common.{◌≡◌, ℕ, suc, ◌+◌, ◌*◌, ◌^◌, ◌<◌, ◌≤◌, Bool, true, eqb, List, [], ◌∷◌, map, length, Some, None, Option, ℤ, w32, SFits, to_z, of_z, sym, refl, ap, ◌∙◌, subst, ap₂, arith}
 use Rattle.std.proofs.lemmas.Bool.{cond-true, cond-false, eq-eqb, ne_eqb}
 use Rattle.outer.specs.declared.check.Judge as Judge
 use Rattle.store.specs.declared.store.Store as Store
+use Rattle.std.proofs.lemmas.Int.{to_z-of_z}
 use Rattle.cost.specs.Values.{contradicts}
 use Rattle.cost.specs.Path.{decision}
 use Rattle.cost.specs.Rows.{path_at}
@@ -25,14 +26,14 @@ use Rattle.model.proofs.Children.{first-length, cost-first, cost-child}
 use Rattle.decoder.specs.Blocks.{plan_in, llr_in}
 use Rattle.decoder.specs.States.{contents_of, loaded_of, RowsApart, ShownWhole, Sound}
 use Rattle.decoder.specs.Phases.{is_loaded}
-use Rattle.decoder.specs.Steps.{path_of, MayStep, Ready, Costs, Framed, Searched}
+use Rattle.decoder.specs.Steps.{path_of, MayPut, MayStep, Ready, Costs, Framed, Searched}
 use Rattle.decoder.specs.declared.state.State.{State}
 use Rattle.decoder.specs.declared.phase.Phase.TheVariants as phase
 use Rattle.decoder.proofs.Apart.{apart-taken}
 
 -- Children
 
-pub child-costs :
+child-costs :
     {S C : Type 0} (d : State S C) (c : Candidate) (bit : Bool) (more : ℕ) → c.length < block_length (plan_in d.block)
     → c.metric ≡ path_cost (log_length (plan_in d.block)) (llr_in d.block) (path_of d c)
     → more ≡ contradicts (decision (log_length (plan_in d.block)) (llr_in d.block) (path_at d.rows c.row) c.length) bit
@@ -47,6 +48,15 @@ child-costs d c bit more place metric value =
     let size : length (child p bit) ≤ 2 ^ n = let a = length-child p bit in let b = first-length u c.length in omega arith in
     let most : path_cost n llr (child p bit) ≤ 2 ^ 30 = cost-fits n llr (bits_of (child p bit)) d.block.plan.sized.1 (λ k h. d.block.soft.bounded k) (length (child p bit)) size in
     record { cost = total; fits = omega arith }
+
+-- where the decision value v was found as the program finds it
+pub found-costs :
+    {S C : Type 0} (d : State S C) (c : Candidate) (bit : Bool) (more : ℕ) (v : ℤ) (u : ℕ → Bool) → SFits w32 v
+    → v ≡ decision (log_length (plan_in d.block)) (llr_in d.block) u c.length → u ≡ path_at d.rows c.row → more ≡ contradicts (to_z w32 (of_z w32 v)) bit
+    → c.length < block_length (plan_in d.block) → c.metric ≡ path_cost (log_length (plan_in d.block)) (llr_in d.block) (path_of d c) → Costs d c bit more
+found-costs d c bit more v u fits value path adds place metric =
+    child-costs d c bit more place metric
+    (adds ∙ ap (λ x. contradicts x bit) (to_z-of_z w32 v fits ∙ value ∙ ap (λ p. decision (log_length (plan_in d.block)) (llr_in d.block) p c.length) path))
 
 pub costs-on :
     {S C : Type 0} (d d' : State S C) (c : Candidate) (bit : Bool) (more : ℕ) → d'.block ≡ d.block → path_of d' c ≡ path_of d c
@@ -113,6 +123,17 @@ sound-step members judge d e sound model apart serials shown = record {
   shown = shown;
 }
 
+-- d with another store and count of steps
+abbrev pub taken : {S C : Type 0} (d : State S C) → S → ℕ → d.counts.most_failures ≤ 64 → d.counts.most_steps ≤ 16777216 → State S C
+taken d s steps few brief = record {
+  store = s;
+  check = d.check;
+  block = d.block;
+  rows = d.rows;
+  counts = record { most_failures = d.counts.most_failures; most_steps = d.counts.most_steps; serial = d.counts.serial; steps = steps; failures = d.counts.failures; few = few; brief = brief };
+  phase = d.phase;
+}
+
 -- d' is d after the take of c, with the step counted
 pub record Took {S C : Type 0} (members : Store.Ghosts S) (judge : Judge.Ghosts C) (d d' : State S C) (c : Candidate) : Type 0 where
   pub answer : (store.takes (members.kept d.store)).answer ≡ Some c
@@ -128,6 +149,27 @@ pub record Took {S C : Type 0} (members : Store.Ghosts S) (judge : Judge.Ghosts 
   pub steps : d'.counts.steps ≡ suc d.counts.steps
   pub failures : d'.counts.failures ≡ d.counts.failures
   pub phase : d'.phase ≡ d.phase
+
+pub after-take :
+    {S C : Type 0} (members : Store.Ghosts S) (judge : Judge.Ghosts C) (d : State S C) (s : S) (steps : ℕ) (few : d.counts.most_failures ≤ 64) (brief : d.counts.most_steps ≤ 16777216) (c : Candidate)
+    → (store.takes (members.kept d.store)).answer ≡ Some c → members.kept s ≡ (store.takes (members.kept d.store)).stays → members.capacity s ≡ members.capacity d.store
+    → members.floor s ≡ store.lowered store.metric_of (members.floor d.store) (store.takes (members.kept d.store)).shed → steps ≡ suc d.counts.steps
+    → Took members judge d (taken d s steps few brief) c
+after-take members judge d s steps few brief c answer kept capacity floor counted = record {
+  answer = answer;
+  kept = kept;
+  capacity = capacity;
+  floor = floor;
+  rows = refl;
+  check = refl;
+  block = refl;
+  most_failures = refl;
+  most_steps = refl;
+  serial = refl;
+  steps = counted;
+  failures = refl;
+  phase = refl;
+}
 
 -- a step that finds nothing leaves the state as it is
 pub none-taken :
@@ -167,21 +209,27 @@ module _ {S C : Type 0} (members : Store.Ghosts S) (judge : Judge.Ghosts C) (d d
     exact : Each (Exact (loaded_of members judge d).block d.counts.serial) (candidate_in paths c ∷ map (candidate_in paths) rest)
     exact = subst (λ k. Each (Exact (loaded_of members judge d).block d.counts.serial) (map (candidate_in paths) k)) first sound.exact
 
-    pub took-metric : c.metric ≡ path_cost (log_length (plan_in d'.block)) (llr_in d'.block) (path_of d' c)
+    took-metric : c.metric ≡ path_cost (log_length (plan_in d'.block)) (llr_in d'.block) (path_of d' c)
     took-metric = exact.0.metric ∙ ap₂ (λ b r. path_cost (log_length (plan_in b)) (llr_in b) (first_bits (path_at r c.row) c.length)) (sym took.block) (sym took.rows)
 
-    pub took-length : c.length ≤ block_length (plan_in d.block)
+    took-length : c.length ≤ block_length (plan_in d.block)
     took-length = let h = lawful-length (loaded_of members judge d).block (first_bits (paths c.row) c.length) exact.0.lawful in let k = first-length (paths c.row) c.length in omega arith
 
-    pub took-serials : d.counts.steps < d.counts.most_steps → d'.counts.serial < 4294967294
+    pub took-whole : block_length (plan_in d.block) ≤ c.length → c.length ≡ block_length (plan_in d.block)
+    took-whole long = let h = took-length in omega arith
+
+    took-serials : d.counts.steps < d.counts.most_steps → d'.counts.serial < 4294967294
     took-serials steps = let h = sound.serials in let k = d.counts.brief in let e = took.serial in omega arith
 
-    pub took-ready : d.phase ≡ phase.Searching → d.counts.steps < d.counts.most_steps → Ready members judge d'
+    took-ready : d.phase ≡ phase.Searching → d.counts.steps < d.counts.most_steps → Ready members judge d'
     took-ready searching steps = record {
       phase = took.phase ∙ searching;
       later = subst (λ n. Each (λ k. k.serial < n) (members.kept d'.store)) (sym took.serial) (subst (Each (λ k. k.serial < d.counts.serial)) (sym took.kept) (serials-of paths (loaded_of members judge d).block d.counts.serial rest exact.1));
       fits = let h = took-serials steps in omega arith;
     }
+
+    pub took-may : d.phase ≡ phase.Searching → d.counts.steps < d.counts.most_steps → MayPut members judge d' c
+    took-may searching steps = record { ready = took-ready searching steps; serials = took-serials steps; metric = took-metric }
 
     pub took-apart : RowsApart (members.kept d'.store)
     took-apart = apart-taken (members.kept d.store) (members.kept d'.store) sound.apart took.kept
@@ -218,7 +266,7 @@ searching-whole members judge e h = subst (ShownWhole judge e) (sym h) tt
 
 pub children-step :
     {S C : Type 0} (members : Store.Ghosts S) (judge : Judge.Ghosts C) (d d' e : State S C) (c : Candidate) → MayStep members judge d → c.length < block_length (plan_in d.block)
-    → (Ready members judge d' → d'.counts.serial < 4294967294 → c.metric ≡ path_cost (log_length (plan_in d'.block)) (llr_in d'.block) (path_of d' c) → loaded_of members judge e ≡ put_children ruled (path_of d' c) (loaded_of members judge d') (allowed (kinds_of (plan_in d'.block)) (path_of d' c)))
+    → loaded_of members judge e ≡ put_children ruled (path_of d' c) (loaded_of members judge d') (allowed (kinds_of (plan_in d'.block)) (path_of d' c))
     → ((RowsApart (members.kept d'.store) → RowsApart (members.kept e.store)) × (e.counts.serial ≤ d'.counts.serial + 2))
     → Searched d' e → Took members judge d d' c → d'.phase ≡ d.phase → d'.check ≡ d.check → d'.block ≡ d.block
     → Stepped members judge d e
@@ -234,13 +282,13 @@ children-step members judge d d' e c may part puts apart frame took here check b
   where
     model : loaded_of members judge e ≡ step ruled (loaded_of members judge d)
     model =
-        children-put members judge d d' c took e part (puts (took-ready members judge d d' c took may.sound may.searching may.steps) (took-serials members judge d d' c took may.sound may.steps) (took-metric members judge d d' c took may.sound))
+        children-put members judge d d' c took e part puts
 
 pub word-step :
     {S C : Type 0} (members : Store.Ghosts S) (judge : Judge.Ghosts C) (d d' e : State S C) (c : Candidate) → MayStep members judge d → block_length (plan_in d.block) ≤ c.length
-    → (c.length ≡ block_length (plan_in d'.block) → d'.counts.failures < 4294967295 → d'.phase ≡ phase.Searching → loaded_of members judge e ≡ judged (candidate_in (path_at d'.rows) c) (loaded_of members judge d'))
+    → loaded_of members judge e ≡ judged (candidate_in (path_at d'.rows) c) (loaded_of members judge d')
     → ((e.store ≡ d'.store) × (e.counts.serial ≡ d'.counts.serial)) → Framed d' e
-    → (c.length ≡ block_length (plan_in d'.block) → d'.phase ≡ phase.Searching → ShownWhole judge e e.phase) → (d'.phase ≡ phase.Searching → is_loaded e.phase ≡ true)
+    → ShownWhole judge e e.phase → is_loaded e.phase ≡ true
     → Took members judge d d' c → d'.phase ≡ d.phase → d'.check ≡ d.check → d'.block ≡ d.block
     → Stepped members judge d e
 word-step members judge d d' e c may long judges same frame shown loaded took here check block = record {
@@ -248,15 +296,11 @@ word-step members judge d d' e c may long judges same frame shown loaded took he
   sound =
       sound-step members judge d e may.sound model (subst (λ s. RowsApart (members.kept s)) (sym same.0) (took-apart members judge d d' c took may.sound))
       (let k = may.sound.serials in let a = took.serial in let b = took.steps in let n = frame.steps in let h = same.1 in omega arith)
-      (shown (whole ∙ ap (λ x. block_length (plan_in x)) (sym block)) (here ∙ may.searching));
-  loaded = loaded (here ∙ may.searching);
+      shown;
+  loaded = loaded;
   check = (frame.check ∙ check, frame.block ∙ block);
 }
   where
-    whole : c.length ≡ block_length (plan_in d.block)
-    whole = let h = took-length members judge d d' c took may.sound in omega arith
-
     model : loaded_of members judge e ≡ step ruled (loaded_of members judge d)
     model =
-        word-judged members judge d d' c took e whole
-        (judges (whole ∙ ap (λ x. block_length (plan_in x)) (sym block)) (let a = took.failures in let b = d.counts.few in let f = may.failures in omega arith) (here ∙ may.searching))
+        word-judged members judge d d' c took e (took-whole members judge d d' c took may.sound long) judges

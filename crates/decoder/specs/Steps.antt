@@ -30,6 +30,12 @@ pub record Ready {S C : Type 0} (members : Store.Ghosts S) (judge : Judge.Ghosts
   pub later : Each (λ k. k.serial < d.counts.serial) (members.kept d.store)
   pub fits : d.counts.serial < 4294967295
 
+-- the children of c may be put: two serials are left, and c has its path's cost
+pub record MayPut {S C : Type 0} (members : Store.Ghosts S) (judge : Judge.Ghosts C) (d : State S C) (c : Candidate) : Type 0 where
+  pub ready : Ready members judge d
+  pub serials : d.counts.serial < 4294967294
+  pub metric : c.metric ≡ path_cost (log_length (plan_in d.block)) (llr_in d.block) (path_of d c)
+
 -- the child of c that goes on with the bit costs `more` than c has for its metric
 pub record Costs {S C : Type 0} (d : State S C) (c : Candidate) (bit : Bool) (more : ℕ) : Type 0 where
   pub cost : c.metric + more ≡ path_cost (log_length (plan_in d.block)) (llr_in d.block) (child (path_of d c) bit)

@@ -29,7 +29,7 @@ impl<S: Store, C: Judge> Decoder<S, C> {
     {
         self.state.phase.admits(Phased::Advance)?;
         let size = 2 * self.state.block.plan().length();
-        if budget < 1 || budget > MOST_BUDGET || scratch.len() < size {
+        if !(1..=MOST_BUDGET).contains(&budget) || scratch.len() < size {
             return Err(Refusal::Budget);
         }
         let met = self.state.search(budget, &mut scratch[0..size]);

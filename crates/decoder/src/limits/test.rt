@@ -8,11 +8,8 @@ impl Limits {
     pub fn allowed(&self) -> bool
         ensures { result ≡ limits_allowed self.now }
     {
-        2 <= self.capacity
-            && self.capacity <= 128
-            && 1 <= self.failures
-            && self.failures <= 64
-            && 1 <= self.steps
-            && self.steps <= 16_777_216
+        (2..=128).contains(&self.capacity)
+            && (1..=64).contains(&self.failures)
+            && (1..=16_777_216).contains(&self.steps)
     }
 }

@@ -4,7 +4,7 @@ ghost use Rattle.cost.specs.Rows.{path_at};
 ghost use Rattle.decoder.specs.Blocks.{plan_in, llr_in, HeldIn};
 ghost use Rattle.decoder.specs.States.{loaded_of, RowsApart, ShownWhole, Sound};
 ghost use Rattle.decoder.specs.Phases.{is_loaded};
-ghost use Rattle.decoder.specs.Steps.{path_of, MayStep, Ready, Costs, Framed, Searched};
+ghost use Rattle.decoder.specs.Steps.{path_of, MayPut, MayStep, Ready, Costs, Framed, Searched};
 ghost use Rattle.decoder.specs.declared.phase.Phase.TheVariants as phase;
 ghost use Rattle.model.specs.Blocks.{kinds_of, path_cost};
 ghost use Rattle.model.specs.Reading.{first_bits, candidate_in};
@@ -52,8 +52,10 @@ impl<S: Store, C: Judge> State<S, C> {
     // Puts the child of c that goes on with a bit and costs more than c; one that is hopeless is left out.
     fn put_child(&mut self, c: Candidate, bit: bool, more: u32)
         requires place { c.length < block_length (plan_in self.old.block) }
-        ensures model { Ready S.Store C.Judge self.old → Costs self.old c bit more → loaded_of S.Store C.Judge self.new ≡ search.put_child ruled (path_of self.old c) (loaded_of S.Store C.Judge self.old) bit }
-        ensures later { Ready S.Store C.Judge self.old → Each (λ k. k.serial < self.new.counts.serial) (S.kept self.new.store) }
+        requires ready { Ready S.Store C.Judge self.old }
+        requires costs { Costs self.old c bit more }
+        ensures model { loaded_of S.Store C.Judge self.new ≡ search.put_child ruled (path_of self.old c) (loaded_of S.Store C.Judge self.old) bit }
+        ensures later { Each (λ k. k.serial < self.new.counts.serial) (S.kept self.new.store) }
         ensures parent { path_of self.new c ≡ path_of self.old c }
         ensures apart { ((RowsApart (S.kept self.old.store) → RowsApart (S.kept self.new.store))) × (self.new.counts.serial ≤ self.old.counts.serial + 1) }
         ensures frame { Searched self.old self.new }
@@ -79,7 +81,8 @@ impl<S: Store, C: Judge> State<S, C> {
         requires place { c.length < block_length (plan_in self.old.block) }
         requires room { 2 * block_length (plan_in self.old.block) ≤ length scratch.old }
         requires held { HeldIn self.old.block memo.old scratch.old }
-        ensures model { Ready S.Store C.Judge self.old → self.old.counts.serial < 4294967294 → c.metric ≡ path_cost (log_length (plan_in self.old.block)) (llr_in self.old.block) (path_of self.old c) → loaded_of S.Store C.Judge self.new ≡ search.put_children ruled (path_of self.old c) (loaded_of S.Store C.Judge self.old) (allowed (kinds_of (plan_in self.old.block)) (path_of self.old c)) }
+        requires may { MayPut S.Store C.Judge self.old c }
+        ensures model { loaded_of S.Store C.Judge self.new ≡ search.put_children ruled (path_of self.old c) (loaded_of S.Store C.Judge self.old) (allowed (kinds_of (plan_in self.old.block)) (path_of self.old c)) }
         ensures apart { ((RowsApart (S.kept self.old.store) → RowsApart (S.kept self.new.store))) × (self.new.counts.serial ≤ self.old.counts.serial + 2) }
         ensures frame { Searched self.old self.new }
         ensures held { HeldIn self.old.block memo.new scratch.new }
@@ -113,11 +116,14 @@ impl<S: Store, C: Judge> State<S, C> {
 
     // Judges a whole path: it is shown if the check accepts it.
     fn judge(&mut self, c: Candidate)
-        ensures model { c.length ≡ block_length (plan_in self.old.block) → self.old.counts.failures < 4294967295 → self.old.phase ≡ phase.Searching → loaded_of S.Store C.Judge self.new ≡ search.judged (candidate_in (path_at self.old.rows) c) (loaded_of S.Store C.Judge self.old) }
+        requires whole { c.length ≡ block_length (plan_in self.old.block) }
+        requires failures { self.old.counts.failures < 4294967295 }
+        requires searching { self.old.phase ≡ phase.Searching }
+        ensures model { loaded_of S.Store C.Judge self.new ≡ search.judged (candidate_in (path_at self.old.rows) c) (loaded_of S.Store C.Judge self.old) }
         ensures store { (self.new.store ≡ self.old.store) × (self.new.counts.serial ≡ self.old.counts.serial) }
         ensures frame { Framed self.old self.new }
-        ensures shown { c.length ≡ block_length (plan_in self.old.block) → self.old.phase ≡ phase.Searching → ShownWhole C.Judge self.new self.new.phase }
-        ensures loaded { self.old.phase ≡ phase.Searching → is_loaded self.new.phase ≡ true }
+        ensures shown { ShownWhole C.Judge self.new self.new.phase }
+        ensures loaded { is_loaded self.new.phase ≡ true }
     {
         if self.accepted_word(c.row) {
             self.phase = Phase::Shown(c);

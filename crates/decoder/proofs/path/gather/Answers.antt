@@ -1,8 +1,7 @@
-use Rattle.std.proofs.Common.{◌≡◌, ◌-◌, ◌<◌, length, take, sym, refl, ap, ◌∙◌, ap₂, arith, rules}
+use Rattle.std.proofs.Common.{◌<◌, length, take, sym, refl, ap, ◌∙◌, ap₂, arith, rules}
 use Rattle.std.proofs.lemmas.List.{length-set}
 use Rattle.bits.specs.Row.{row_bit}
 use Rattle.model.specs.Blocks.{kinds_of}
-use Rattle.search.specs.Paths.{information_from}
 use Rattle.decoder.proofs.Walks.{gather-more, gather-on}
 use Rattle.model.specs.Reading.{first_bits}
 use Rattle.decoder.proofs.path.gather.Goals as goal
@@ -31,10 +30,3 @@ loop-i-preserved c =
         ap length w.room-is ∙ size,
       )
     ]
-
-pub returns : goal.returns
-returns c =
-    let (front, few, size) = c.loop-i.invariant in
-    let all : c.loop-i.count - 0 ≡ c.loop-i.count = omega arith in
-    let end : c.loop-i.i ≡ c.args.len = let h = c.loop-i-test.false in let k = c.loop-i.auto.i-end in omega arith in
-    ap (λ k. take k c.loop-i.room) all ∙ front ∙ ap (λ k. information_from (kinds_of c.args.plan.now) 0 (first_bits (row_bit c.args.path.now) k)) end

@@ -1,18 +1,8 @@
-use Rattle.std.proofs.Common.{◌≡◌, suc, ◌+◌, ◌-◌, ◌*◌, sym, refl, ap, ◌∙◌, subst, arith, rules}
-use Rattle.plan.specs.Plans.{block_length}
-use Rattle.decoder.specs.Blocks.{plan_in, HeldIn}
+use Rattle.std.proofs.Common.{◌≡◌, suc, ◌+◌, ◌-◌, ◌∙◌, subst, arith, rules}
+use Rattle.decoder.specs.Blocks.{HeldIn}
 use Rattle.decoder.specs.declared.report.Met.TheVariants as met
-use Rattle.decoder.proofs.Advances.{Done, ended, starts, done-halted, done-paused, done-shown, goes-again, may-step}
+use Rattle.decoder.proofs.Advances.{Done, ended, done-halted, done-paused, done-shown, goes-again}
 use Rattle.decoder.proofs.state.State.search.Goals as goal
-
-pub loop-init : goal.loop-init
-loop-init g c = (starts g.S.Store g.C.Judge c.args.self.now c.args.budget c.requires.sound c.requires.searching, refl, refl, refl, tt)
-
-pub step-requires : goal.step-requires
-step-requires g c =
-    let (going, _, block, size, held) = c.loop.invariant in
-    let same : 2 * block_length (plan_in c.loop.self.block) ≡ 2 * block_length (plan_in c.args.self.now.block) = ap (λ b. 2 * block_length (plan_in b)) block in
-    record { may = may-step g.S.Store g.C.Judge c.args.self.now c.loop.self c.args.budget _ going c.in_default.ensures; room = let h = c.requires.room in omega arith; held = subst (λ b. HeldIn b c.loop.memo c.loop.room.0.now) (sym block) held }
 
 pub loop-preserved : goal.loop-preserved
 loop-preserved g c =

@@ -1,5 +1,5 @@
-use Rattle.std.proofs.Common.{◌≡◌, false, map, get_or, sym, ap, ◌∙◌, arith, rules}
-use Rattle.std.proofs.lemmas.List.{length-set, take_all}
+use Rattle.std.proofs.Common.{◌≡◌, false, get_or, ◌∙◌, arith, rules}
+use Rattle.std.proofs.lemmas.List.{length-set}
 use Rattle.code.specs.Sending.{byte_of}
 use Rattle.decoder.proofs.Shows.{bytes-more}
 use Rattle.decoder.proofs.state.shown.write_bytes.Goals as goal
@@ -10,9 +10,3 @@ loop-k-preserved c =
     let inside = c.loop-k-test.true in
     let value : c.from.result ≡ byte_of (get_or c.args.bits.now c.loop-k.k false) = search rules in
     (bytes-more c.args.bits.now c.loop-k.output c.loop-k.k c.from.result inside (omega arith) value front, length-set c.loop-k.output c.loop-k.k c.from.result ∙ size)
-
-pub returns : goal.returns
-returns c =
-    let (front, size) = c.loop-k.invariant in
-    let left = c.loop-k-test.false in
-    sym (take_all c.loop-k.k c.loop-k.output (omega arith)) ∙ front ∙ ap (map byte_of) (take_all c.loop-k.k c.args.bits.now left)
