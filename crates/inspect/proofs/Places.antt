@@ -5,7 +5,7 @@ use Rattle.base.specs.declared.refusal.Refusal.{Refusal}
 use Rattle.block.specs.Fields.{received_at, request_of}
 use Rattle.code.specs.First.{first_below}
 use Rattle.code.specs.Recovery.{total_below, value_at, share_of, unsent_soft, soft_at, beyond, bad_value, recovery_verdict, Recovers}
-use Rattle.plan.specs.Plans.{Made, Planned, block_length, sent_bits, place_of, sent_at, mode_in}
+use Rattle.plan.specs.Plans.{MadeOf, Planned, block_length, sent_bits, place_of, sent_at, mode_in}
 use Rattle.plan.specs.Requests.{verdict}
 use Rattle.plan.specs.declared.plan.Plan.{Plan}
 use Rattle.plan.specs.declared.request.Request.{Request}
@@ -56,23 +56,23 @@ softens plan body values before after (Ok done) sent whole read is = (
 softens plan body values before after (Err e) sent whole read is = sym (verdict-same plan body values (length before) sent whole read) ∙ is.0
 
 -- a plan that was made of the numbers in a file is the plan of the file
-pub plan-of : {X : Type 0} (input : List ℕ) (b : Block) (before plan : Plan) (q : Request) (r : Result X Refusal) (x : X)
-    → (file_fault input ≡ None) × FileIs input b → r ≡ Ok x → Made before q r plan → q ≡ request_of b.plan → PlanOf input plan
-plan-of {X = X} input b before plan q r x file is made same = record {
+pub plan-of : (input : List ℕ) (b : Block) (plan : Plan) (q : Request) (r : Result Plan Refusal)
+    → (file_fault input ≡ None) × FileIs input b → r ≡ Ok plan → MadeOf q r → q ≡ request_of b.plan → PlanOf input plan
+plan-of input b plan q r file is made same = record {
   granted = file.0;
   numbers = b.plan;
   holds = file.1.plan;
-  planned = subst (λ (p : Request). Planned p plan) same (subst (λ (s : Result X Refusal). Made before q s plan) is made).1;
+  planned = subst (λ (p : Request). Planned p plan) same (subst (MadeOf q) is made).1;
 }
 
 -- and a refusal to make one is a refusal of the plan of the file
-pub refused-of : {X : Type 0} (input : List ℕ) (b : Block) (before plan : Plan) (q : Request) (r : Result X Refusal) (e : Refusal)
-    → (file_fault input ≡ None) × FileIs input b → r ≡ Err e → Made before q r plan → q ≡ request_of b.plan → PlanRefused input e
-refused-of {X = X} input b before plan q r e file is made same = record {
+pub refused-of : (input : List ℕ) (b : Block) (q : Request) (r : Result Plan Refusal) (e : Refusal)
+    → (file_fault input ≡ None) × FileIs input b → r ≡ Err e → MadeOf q r → q ≡ request_of b.plan → PlanRefused input e
+refused-of input b q r e file is made same = record {
   granted = file.0;
   numbers = b.plan;
   holds = file.1.plan;
-  refused = subst (λ (p : Request). verdict p ≡ Some e) same (subst (λ (s : Result X Refusal). Made before q s plan) is made).0;
+  refused = subst (λ (p : Request). verdict p ≡ Some e) same (subst (MadeOf q) is made);
 }
 
 -- soft values from the body that was read are those of the file

@@ -48,9 +48,8 @@ pub fn inspect(input: &[u8]) -> Result<Sheet, BadSheet>
     })?;
     let numbers = block.plan;
     let soft = soft_count(input, &numbers);
-    let mut plan = Plan::builtin();
-    match plan.make(&numbers.request()) {
-        Ok(()) => Ok(Sheet {
+    match Plan::try_from(&numbers.request()) {
+        Ok(plan) => Ok(Sheet {
             plan,
             numbers,
             limits: block.search,

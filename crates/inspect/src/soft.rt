@@ -71,8 +71,7 @@ pub fn soft_sheet(input: &[u8]) -> Result<SoftSheet, SoftFault>
     ensures { SoftSheetOf input.now result }
 {
     let block = examine(input).map_err(SoftFault::Untold)?;
-    let mut plan = Plan::builtin();
-    plan.make(&block.plan.request()).map_err(SoftFault::Untold)?;
+    let plan = Plan::try_from(&block.plan.request()).map_err(SoftFault::Untold)?;
     let llrs = soft_places(&plan, block.fields.values.body).map_err(SoftFault::BadValue)?;
     Ok(SoftSheet { plan, llrs })
 }

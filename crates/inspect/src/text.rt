@@ -82,14 +82,6 @@ fn write_limits<W: fmt::Write>(f: &mut fmt::Formatter<W>, s: &SearchNumbers) -> 
     )
 }
 
-fn mode_name(mode: Mode) -> &'static str {
-    match mode {
-        Mode::Repeat => "repeat",
-        Mode::Puncture => "puncture",
-        Mode::Shorten => "shorten",
-    }
-}
-
 // Line B.
 fn write_plan<W: fmt::Write>(f: &mut fmt::Formatter<W>, plan: &Plan) -> fmt::Result {
     write_sizes(f, plan)?;
@@ -104,7 +96,7 @@ fn write_plan<W: fmt::Write>(f: &mut fmt::Formatter<W>, plan: &Plan) -> fmt::Res
 }
 
 fn write_sizes<W: fmt::Write>(f: &mut fmt::Formatter<W>, plan: &Plan) -> fmt::Result {
-    let mode = mode_name(plan.mode());
+    let mode = plan.mode();
     let length = plan.length();
     let word = plan.word_bits();
     writeln!(f, "B plan: mode {mode}, N {length}, K {word}")

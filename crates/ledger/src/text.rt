@@ -15,14 +15,6 @@ pub struct Account {
     pub bits: usize,
 }
 
-fn kind_name(kind: Kind) -> &'static str {
-    match kind {
-        Kind::Frozen => "frozen",
-        Kind::Information => "information",
-        Kind::Parity => "parity",
-    }
-}
-
 impl fmt::Display for Account {
     fn fmt<W: fmt::Write>(&self, f: &mut fmt::Formatter<W>) -> fmt::Result {
         let cost = write_bits(f, self)?;
@@ -45,13 +37,13 @@ fn write_bits<W: fmt::Write>(
         let Some(entry) = bit_entry(&account.plan, &account.soft, &account.row, i) else {
             break;
         };
-        let name = kind_name(account.plan.kind(i));
+        let kind = account.plan.kind(i);
         let BitEntry { value, bit, cost } = entry;
         let bit = u8::from(bit);
         sum = sum.saturating_add(cost);
         writeln!(
             f,
-            "position {i} {name}: value {value}, bit {bit} costs {cost}, sum {sum}"
+            "position {i} {kind}: value {value}, bit {bit} costs {cost}, sum {sum}"
         )?;
     }
     Ok(sum)

@@ -14,8 +14,7 @@ use std::io::Read;
 
 fn account(input: &[u8], path: PathBits) -> Result<Account, Refusal> {
     let block = examine(input)?;
-    let mut plan = Plan::builtin();
-    plan.make(&block.plan.request())?;
+    let plan = Plan::try_from(&block.plan.request())?;
     let soft = soft_values(&plan, block.fields.values.body)?;
     let bits = path.count.min(plan.length());
     Ok(Account {

@@ -1,7 +1,6 @@
 // The calls that lines name. Assumes nothing.
 use crate::numbers::{length, number, signed};
 use crate::refused::NoCall;
-use base::Refusal;
 use block::CheckCode;
 use decoder::Limits;
 use plan::{Plan, Request};
@@ -49,12 +48,6 @@ fn limits_of(capacity: &str, failures: &str, steps: &str) -> Result<Limits, NoCa
     })
 }
 
-fn plan_of(request: &Request) -> Result<Plan, Refusal> {
-    let mut plan = Plan::builtin();
-    plan.make(request)?;
-    Ok(plan)
-}
-
 // A call, and the words of the soft values that it loads.
 #[derive(Clone, Copy)]
 pub struct Asked<'a> {
@@ -82,7 +75,7 @@ fn load_of<'a>(words: &'a [&'a str], at: usize) -> Result<Asked<'a>, NoCall> {
     let request = request_of([check, n, payload, sent, low, parity])?;
     let limits = limits_of(capacity, failures, steps)?;
     let count = soft_count(soft)?;
-    let plan = plan_of(&request)?;
+    let plan = Plan::try_from(&request)?;
     let call = Call::Load {
         plan,
         at,

@@ -3,10 +3,10 @@ use crate::script::Script;
 use crate::setup::Setup;
 use crate::text::{KeptList, Told};
 use base::Refusal;
-use block::{CheckCode, StoreCode};
+use block::StoreCode;
 use decoder::Decoder;
 use heap::Heap;
-use outer::{Judge, NoCheck, Spread, Trailing};
+use outer::Judge;
 use replay::{Answer, Call, play, replay};
 use std::io;
 use store::{Store, Table};
@@ -65,56 +65,34 @@ fn print_played<S: Store + Copy, C: Judge>(
     Ok(())
 }
 
-fn play_over<S: Store + Copy, C: Judge + Copy>(
+fn play_over<S: Store + Copy>(
     rt: &HostRuntime,
     script: &Script,
-    store: S,
-    check: C,
+    setup: Setup<'_>,
+    mut store: S,
 ) -> io::Result<()> {
+    setup.use_store(&mut store);
     let mut scratch = [0; LONGEST];
     let mut output = [0; LONGEST];
     let calls = script.calls(rt.alloc())?;
     let (_, answers) = replay(
         rt.alloc(),
         store,
-        check,
+        setup.check,
         calls.as_slice(),
         script.values.as_slice(),
         &mut scratch,
         &mut output,
     );
     let answers = answers?;
-    let mut decoder = Decoder::new(store, check);
+    let mut decoder = Decoder::new(store, setup.check);
     print_played(rt, script, answers.as_slice(), &mut decoder)
-}
-
-fn play_checked<S: Store + Copy>(
-    rt: &HostRuntime,
-    script: &Script,
-    store: S,
-    check: CheckCode,
-) -> io::Result<()> {
-    match check {
-        CheckCode::None => play_over(rt, script, store, NoCheck),
-        CheckCode::Trailing6 => play_over(rt, script, store, Trailing::Six),
-        CheckCode::Trailing11 => play_over(rt, script, store, Trailing::Eleven),
-        CheckCode::Spread4 => play_over(rt, script, store, Spread::Four),
-        CheckCode::Spread24 => play_over(rt, script, store, Spread::TwentyFour),
-    }
 }
 
 pub fn play_script(rt: &HostRuntime, setup: Setup<'_>, lines: &[&str]) -> io::Result<()> {
     let script = Script::read(rt.alloc(), lines)?;
     match setup.store {
-        StoreCode::Table => {
-            let mut store = Table::new();
-            setup.use_store(&mut store);
-            play_checked(rt, &script, store, setup.check)
-        }
-        StoreCode::Heap => {
-            let mut store = Heap::new();
-            setup.use_store(&mut store);
-            play_checked(rt, &script, store, setup.check)
-        }
+        StoreCode::Table => play_over(rt, &script, setup, Table::new()),
+        StoreCode::Heap => play_over(rt, &script, setup, Heap::new()),
     }
 }

@@ -10,9 +10,7 @@ use plan::Plan;
 pub fn plan_of(request: &Request) -> Result<Plan, Refusal>
     ensures { PlanFor request.now result }
 {
-    let mut plan = Plan::builtin();
-    plan.make(&request.plan.request())?;
-    Ok(plan)
+    Plan::try_from(&request.plan.request())
 }
 
 // The laid word of a request under its plan.
