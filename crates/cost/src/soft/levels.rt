@@ -33,6 +33,7 @@ fn fill_by<F: Fn(usize, i32, i32) -> i32>(m: usize, rule: F, scratch: &mut [i32]
     ensures { (value : ℕ → ℤ → ℤ → ℤ) → ((k : ℕ) (a b v : ℤ) → k < 2 ^ m → unsigned_abs a ≤ 2 ^ 29 → unsigned_abs b ≤ 2 ^ 29 → F.post rule k a b v → v ≡ value k a b) → Filled (2 ^ m) (2 ^ m) (paired m value scratch.old) scratch.old scratch.new }
 {
     let half = 1 << m;
+    // By index: of values written through split_at_mut and zip a proof knows only how many there are.
     for k in 0..half {
         let (a, b) = pair_above(m, k, scratch);
         scratch[half + k] = rule(k, a, b);
