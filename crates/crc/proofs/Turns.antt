@@ -1,6 +1,6 @@
 -- The turns of the loops of the spread check, along the bits of its word. Assumes nothing.
-use Rattle.std.proofs.Common.{◌≡◌, ℕ, suc, ◌+◌, ◌-◌, ◌/◌, ◌^◌, ◌<◌, ◌≤◌, Bool, true, false, not, ◌&&◌, ◌||◌, eqb, leb, List, [], ◌∷◌, ◌++◌, map, length, get_or, take, set, sym, refl, ap, ◌∙◌, arith}
-use mathlib.Core.Bool.{xor, beq}
+use Rattle.std.proofs.Common.{◌≡◌, ℕ, suc, ◌+◌, ◌-◌, ◌/◌, ◌^◌, ◌<◌, ◌≤◌, Bool, true, false, ◌&&◌, ◌||◌, eqb, leb, List, [], ◌∷◌, ◌++◌, map, length, get_or, take, set, sym, refl, ap, ◌∙◌, arith}
+use mathlib.Core.Bool.{xor}
 use lib.Bits.{bit_and, and_mask}
 use Rattle.base.specs.Counts.{xor_below}
 use Rattle.std.proofs.lemmas.List.{take_more_set, take_all, append-nil, append_assoc, length-take, length-append}
@@ -21,21 +21,6 @@ use Rattle.crc.proofs.Interleaving.{order-long, order-once, order-each, broken-w
 pub odd-bit : (n j : ℕ) → eqb (bit_and (n / 2 ^ j) 1) 1 ≡ bit_of n j
 unfolding bit_of
 odd-bit n j = ap (λ x. eqb x 1) (and_mask (n / 2 ^ j) 1)
-
--- the code's comparison of a check bit with its sum
-pub unlike-sum : (a sums k : ℕ) (v r : Bool) → a ≤ k → r ≡ bit_of sums (k - a)
-    → not (beq v r) ≡ (leb a k && xor v (bit_of sums (k - a)))
-unfolding xor
-unlike-sum a sums k v r l b = grind (arith, nat_tests)
-
--- a payload bit's row, at its index in the longest payload
-pub row-entered : (c : Spread) (a i j row : ℕ) → i < a → bit_of row j ≡ enters (rows c) (longest c - a + i) j → bit_of row j ≡ enters_at c a j i
-unfolding enters_at
-row-entered c a i j row l e = grind (arith, nat_tests)
-
-pub check-enters-none : (c : Spread) (a i j : ℕ) → a ≤ i → enters_at c a j i ≡ false
-unfolding enters_at
-check-enters-none c a i j l = grind (arith, nat_tests)
 
 -- ---- the check bits of a payload
 

@@ -1,6 +1,8 @@
-use Rattle.crc.proofs.Turns.{unlike-sum}
+use Rattle.std.proofs.Common.{arith}
+use mathlib.Core.Bool.{xor}
+use Rattle.std.proofs.lemmas.Bool.Decides.{nat_tests}
 use Rattle.outer.proofs.layout.Layout.disagrees.Goals as goal
 
 pub returns-then-bit-self : goal.returns-then-bit-self
-returns-then-bit-self c =
-    unlike-sum c.args.self.payload_bits c.args.sums c.args.bit c.args.value c.odd.result c.if-bit-self.true c.odd.ensures
+unfolding xor
+returns-then-bit-self c = let odd = c.odd.ensures in grind (arith, nat_tests)
