@@ -19,6 +19,7 @@ pub fn gather<'a>(plan: &Plan, path: &Row, len: usize, room: &'a mut [bool; 1024
     requires size { len ≤ 1024 }
     ensures { result.now ≡ information_from (kinds_of plan.now) 0 (first_bits (row_bit path.now) len) }
 {
+    // counted beside the loop: an iterator that fills the room doesn't say how much of it is filled
     let mut count = 0;
     for i in 0..len {
         if is_information(plan, i) {
