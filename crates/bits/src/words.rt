@@ -57,6 +57,7 @@ pub fn transform(words: &mut [u64], t: usize)
     ensures { (i : ℕ) → i < 2 ^ (6 + t) → words_bit words.new i ≡ code_bit (6 + t) (words_bit words.old) i }
 {
     transform_each(words);
+    // s numbers the stages, which no list holds
     for s in 0..t {
         stage(words, s);
     }

@@ -8,6 +8,7 @@ ghost use Rattle.search.specs.Paths.{information_from, is_information};
 use bits::Row;
 use plan::{Kind, Plan};
 
+// The encoder has the same comparison in the words of plans; this one is in those of the search.
 pub fn is_information(plan: &Plan, i: usize) -> bool
     ensures { result ≡ is_information (kinds_of plan.now i) }
 {

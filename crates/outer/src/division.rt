@@ -18,6 +18,7 @@ pub fn divide(bits: &mut [bool], steps: usize, divisor: &[bool])
     requires room { steps + length divisor.now ≤ length bits.old }
     ensures { drop steps bits.new ≡ divided divisor.now steps bits.old }
 {
+    // by index: a step changes what stands behind its bit
     for i in 0..steps {
         if bits[i] {
             add_onto(&mut bits[i + 1..], divisor);

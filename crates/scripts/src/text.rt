@@ -98,6 +98,7 @@ impl fmt::Display for Kept {
             ..
         } = self.candidate;
         write!(f, "{metric}:{length}:{serial}:")?;
+        // by position: a row is no list
         for k in 0..usize::from(length) {
             write!(f, "{}", Digit(self.path.get(k)))?;
         }

@@ -75,6 +75,7 @@ impl Soft {
         ensures levels { Levels (size_of self.now) (llr_of self.now) (row_bit row.now) i 0 scratch.new }
         ensures around { KeptAround (size_of self.now) scratch.old scratch.new }
     {
+        // m numbers the levels, which no list holds
         for m in (0..low).rev() {
             fill_level(m, row, i, scratch);
         }
