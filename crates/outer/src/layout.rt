@@ -14,7 +14,8 @@ use super::pattern::{longest_of, order_of, rows_of, width_of};
 use crc::Spread;
 
 // Bits of the word are named by their index into the payload and the check bits after it.
-// Sums have check bit j at 2^j.
+// Sums have check bit j at 2^j. Payload and word are handed to each call and not held: finishing lends them one way,
+// reading the other.
 #[derive(Clone, Copy)]
 pub struct Layout {
     kind: Spread,

@@ -9,6 +9,7 @@ use super::check::{Finish, Judge};
 use super::lengths::fits;
 use super::misfit::Misfit;
 
+// of this check; that of the trailing ones happens to be the same
 const LONGEST: usize = 512;
 
 #[derive(Clone, Copy, PartialEq, Eq, Debug)]

@@ -2,7 +2,7 @@
 use crate::refused::NoCall;
 
 // The longest buffer, and the most times that a soft value comes.
-const LONGEST: u16 = 4096;
+pub const LONGEST: usize = 4096;
 
 // An empty text is no number.
 pub fn number<T: TryFrom<u64>>(text: &str) -> Result<T, NoCall>
@@ -18,11 +18,11 @@ where
 
 // The length of a buffer, or how often a soft value comes.
 pub fn length(text: &str) -> Result<usize, NoCall> {
-    let n = number::<u16>(text)?;
+    let n = usize::from(number::<u16>(text)?);
     if n > LONGEST {
         return Err(NoCall::Malformed);
     }
-    Ok(usize::from(n))
+    Ok(n)
 }
 
 // Digits with at most a minus before them.

@@ -1,4 +1,5 @@
 // Plays a script on a decoder over its store and its check, and prints what comes of it. Assumes nothing.
+use crate::numbers::LONGEST;
 use crate::script::Script;
 use crate::setup::Setup;
 use crate::text::{KeptList, Told};
@@ -10,9 +11,6 @@ use outer::Judge;
 use replay::{Answer, Call, play, replay};
 use std::io;
 use store::{Store, Table};
-
-// The longest scratch and output that a script may name.
-const LONGEST: usize = 4096;
 
 // Prints the kept candidates, once a block was loaded: from then on a report is granted.
 fn print_kept<S: Store + Copy, C: Judge>(

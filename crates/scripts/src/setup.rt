@@ -34,6 +34,7 @@ fn parts(text: &str, mark: char) -> Result<(&str, &str), NoCall> {
     text.split_once(mark).ok_or(NoCall::Malformed)
 }
 
+// Numbers of a script, set apart by colons; a list of store calls has words, read as std reads numbers.
 fn candidate(text: &str) -> Result<Candidate, NoCall> {
     let (metric, rest) = parts(text, ':')?;
     let (length, rest) = parts(rest, ':')?;

@@ -13,7 +13,7 @@ use outer::{Finish, Judge};
 use plan::Plan;
 use std::alloc::{AllocError, Global};
 
-// Each byte as a bit.
+// Each byte as a bit. The encoder reads them too, but into memory that it has, of a length that it asks for.
 fn bits_of(heap: Global, bytes: &[u8]) -> Result<Vec<bool>, AllocError>
     ensures { IfOk result (λ v. v.items ≡ bits_of bytes.now) }
 {
