@@ -1,5 +1,5 @@
 -- The looks and the turns of an advance, over the decoder as it is read. Assumes nothing.
-use Rattle.std.proofs.Common.{◌≡◌, ℕ, zero, suc, ◌-◌, ◌<◌, Bool, true, false, cond, eqb, leb, List, [], ◌∷◌, map, length, Some, None, sym, refl, ap, ◌∙◌, arith}
+use Rattle.std.proofs.Common.{◌≡◌, ℕ, zero, suc, ◌<◌, Bool, true, false, cond, eqb, leb, List, [], ◌∷◌, map, length, Some, None, sym, refl, ap, ◌∙◌, arith}
 use Rattle.std.proofs.lemmas.Bool.{or_parts, leb-false, true≢false}
 use Rattle.cost.specs.Rows.{path_at}
 use Rattle.store.specs.declared.candidate.Candidate.{Candidate}
@@ -127,10 +127,8 @@ pub record Done {S C : Type 0} (m : Meanings S C) (before after : Decoder S C) (
 abbrev pub ended : {S C : Type 0} → Decoder S C → Decoder S C
 ended d = record { store = d.store; check = d.check; block = d.block; rows = d.rows; counts = d.counts; phase = phase.Ended }
 
-pub starts : {S C : Type 0} (m : Meanings S C) (d : Decoder S C) (budget : ℕ) → Sound m d → d.phase ≡ phase.Searching → Going m d d budget (budget - 0)
-starts m d budget s p =
-    let all : budget ≡ budget - 0 = omega arith in
-    record { rest = ap (λ n. search.advanced stores.ruled n (loaded_of m d)) all; sound = s; phase = p }
+pub starts : {S C : Type 0} (m : Meanings S C) (d : Decoder S C) (budget : ℕ) → Sound m d → d.phase ≡ phase.Searching → Going m d d budget budget
+starts m d budget s p = record { rest = refl; sound = s; phase = p }
 
 module _ {S C : Type 0} (m : Meanings S C) (before now : Decoder S C) (budget left : ℕ) (going : Going m before now budget left) where
   pub done-halted : (met : Met) → halt_of (Some met) ≡ search.halt stores.ruled (loaded_of m now) → Done m before (ended now) budget met

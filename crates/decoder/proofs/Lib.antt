@@ -7,3 +7,4 @@ pub mod Wholes
 pub mod Firsts
 pub mod Advances
 pub mod Shows
+pub mod Decisions

@@ -15,6 +15,7 @@ use crate::guard::Wiped;
 use crate::phase::Phase;
 use crate::report::{Met, Report};
 use base::{Phased, Refusal};
+use cost::Workspace;
 use outer::Judge;
 use store::Store;
 
@@ -47,23 +48,23 @@ impl<S: Store, C: Judge> Decoder<S, C> {
         ensures room { room.new ≡ replicate (length room.old) (pos 0) }
     {
         let room = Wiped(room);
-        let mut memo = None;
-        for _ in 0..budget {
+        // A copy, since a step changes the decoder.
+        let soft = *self.block.soft();
+        let mut work = Workspace::new(&soft, room.0);
+        let mut left = budget;
+        loop {
             if let Some(met) = self.halt() {
                 self.phase = Phase::Ended;
                 return met;
             }
-            self.step(&mut memo, room.0);
+            if left == 0 {
+                return Met::Paused;
+            }
+            left -= 1;
+            self.step(&mut work);
             if let Phase::Shown(_) = self.phase {
                 return Met::Shown;
             }
-        }
-        match self.halt() {
-            Some(met) => {
-                self.phase = Phase::Ended;
-                met
-            }
-            None => Met::Paused,
         }
     }
 

@@ -12,6 +12,7 @@ use Rattle.model.specs.Reading.{first_bits}
 use Rattle.decoder.specs.Blocks.{plan_in, llr_in}
 use Rattle.decoder.specs.States.{loaded_of, meanings}
 use Rattle.decoder.specs.Steps.{path_of}
+use Rattle.decoder.proofs.Decisions.{decision-in}
 use Rattle.decoder.proofs.Wholes.{child-costs, costs-on, ready_on, searched-on, allowed-first}
 use Rattle.decoder.proofs.decoder.Decoder.put_children.Goals as goal
 
@@ -23,7 +24,7 @@ returns-in-Frozen g c =
     let i = c.args.c.length in
     let fits : SFits w32 c.decision-value.result = search rules in
     let value : to_z w32 (of_z w32 c.decision-value.result) ≡ decision (log_length p) (llr_in d.block) u i =
-    to_z-of_z w32 c.decision-value.result fits ∙ c.decision-value.ensures.value ∙ ap (λ v. decision (log_length p) (llr_in d.block) v i) c.path-path.ensures in
+    to_z-of_z w32 c.decision-value.result fits ∙ c.decision-value.ensures.value ∙ decision-in d.block _ _ i c.requires.work ∙ ap (λ v. decision (log_length p) (llr_in d.block) v i) c.path-path.ensures in
     let kind : kinds_of p i ≡ frozen = ap kind_of (ap (λ q. kind_at q i) (sym c.plan.ensures) ∙ sym c.kind.ensures ∙ c.in-Frozen.is) in
     let m = meanings g.S.Store.kept g.S.Store.capacity g.S.Store.floor g.C.Judge.accepted g.C.Judge.hopeless g.C.Judge.carried in
     record {
@@ -32,7 +33,7 @@ returns-in-Frozen g c =
           ∙ ap (put_children ruled (path_of d c.args.c) (loaded_of m d)) (sym (allowed-first (kinds_of p) u i frozen kind));
       apart = (c.put_child.ensures.apart.0, let h = c.put_child.ensures.apart.1 in omega arith);
       frame = c.put_child.ensures.frame;
-      held = c.decision-value.ensures.held;
+      work = c.decision-value.ensures.block;
     }
 
 pub returns-in-Parity : goal.returns-in-Parity
@@ -44,7 +45,7 @@ returns-in-Parity g c =
     let bit = c.parity_sum-bit.result in
     let fits : SFits w32 c.decision-value.result = search rules in
     let value : to_z w32 (of_z w32 c.decision-value.result) ≡ decision (log_length p) (llr_in d.block) u i =
-    to_z-of_z w32 c.decision-value.result fits ∙ c.decision-value.ensures.value ∙ ap (λ v. decision (log_length p) (llr_in d.block) v i) c.path-path.ensures in
+    to_z-of_z w32 c.decision-value.result fits ∙ c.decision-value.ensures.value ∙ decision-in d.block _ _ i c.requires.work ∙ ap (λ v. decision (log_length p) (llr_in d.block) v i) c.path-path.ensures in
     let kind : kinds_of p i ≡ parity = ap kind_of (ap (λ q. kind_at q i) (sym c.plan.ensures) ∙ sym c.kind.ensures ∙ c.in-Parity.is) in
     let sum : bit ≡ parity_bit (kinds_of p) (first_bits u i) i =
     c.parity_sum-bit.ensures ∙ ap₂ (λ q v. parity_bit (kinds_of q) (first_bits v i) i) c.plan-in-Parity.ensures c.path-path.ensures in
@@ -55,7 +56,7 @@ returns-in-Parity g c =
           ∙ ap (put_children ruled (path_of d c.args.c) (loaded_of m d)) (ap (λ b. b ∷ []) sum ∙ sym (allowed-first (kinds_of p) u i parity kind));
       apart = (c.put_child-in-Parity.ensures.apart.0, let h = c.put_child-in-Parity.ensures.apart.1 in omega arith);
       frame = c.put_child-in-Parity.ensures.frame;
-      held = c.decision-value.ensures.held;
+      work = c.decision-value.ensures.block;
     }
 
 pub returns-in-Information : goal.returns-in-Information
@@ -67,7 +68,7 @@ returns-in-Information g c =
     let i = c.args.c.length in
     let fits : SFits w32 c.decision-value.result = search rules in
     let value : to_z w32 (of_z w32 c.decision-value.result) ≡ decision (log_length p) (llr_in d.block) u i =
-    to_z-of_z w32 c.decision-value.result fits ∙ c.decision-value.ensures.value ∙ ap (λ v. decision (log_length p) (llr_in d.block) v i) c.path-path.ensures in
+    to_z-of_z w32 c.decision-value.result fits ∙ c.decision-value.ensures.value ∙ decision-in d.block _ _ i c.requires.work ∙ ap (λ v. decision (log_length p) (llr_in d.block) v i) c.path-path.ensures in
     let kind : kinds_of p i ≡ information = ap kind_of (ap (λ q. kind_at q i) (sym c.plan.ensures) ∙ sym c.kind.ensures ∙ c.in-Information.is) in
     let m = meanings g.S.Store.kept g.S.Store.capacity g.S.Store.floor g.C.Judge.accepted g.C.Judge.hopeless g.C.Judge.carried in
     let one = c.put_child-in-Information.ensures in
@@ -81,5 +82,5 @@ returns-in-Information g c =
           ∙ ap (put_children ruled (path_of d c.args.c) (loaded_of m d)) (sym (allowed-first (kinds_of p) u i information kind));
       apart = (λ h. two.apart.0 (one.apart.0 h), let a = one.apart.1 in let b = two.apart.1 in omega arith);
       frame = searched-on d e c.put_child-in-Information-2.new.self one.frame two.frame;
-      held = c.decision-value.ensures.held;
+      work = c.decision-value.ensures.block;
     }

@@ -18,7 +18,7 @@ returns-in_default g c =
       sound = λ sound searching steps failures. sound-step m d _ sound model (apart-taken (m.kept d.store) _ sound.apart took.kept) sound.serials sound.shown;
       loaded = λ searching. ap is_loaded searching;
       check = (refl, refl);
-      held = c.requires.held;
+      work = refl;
     }
 
 pub returns-then-c-length : goal.returns-then-c-length
@@ -31,7 +31,7 @@ returns-then-c-length g c =
     let s = children-step m d _ c.put_children.new.self c.in-Some.c part done.model done.apart done.frame
     (λ steps. record { answer = sym took.result ∙ c.in-Some.is; kept = took.kept; capacity = took.capacity; floor = took.floor; rows = refl; check = refl; block = refl; most_failures = refl; most_steps = refl; serial = refl; steps = let h = c.saturating_add-self.ensures in let k = d.counts.brief in omega arith; failures = refl; phase = refl })
     refl refl refl in
-    record { model = s.model; sound = s.sound; loaded = s.loaded; check = s.check; held = done.held }
+    record { model = s.model; sound = s.sound; loaded = s.loaded; check = s.check; work = done.work }
 
 pub returns : goal.returns
 returns g c =
@@ -43,4 +43,4 @@ returns g c =
     let s = word-step m d _ c.judge.new.self c.in-Some.c long done.model done.store done.frame done.shown done.loaded
     (λ steps. record { answer = sym took.result ∙ c.in-Some.is; kept = took.kept; capacity = took.capacity; floor = took.floor; rows = refl; check = refl; block = refl; most_failures = refl; most_steps = refl; serial = refl; steps = let h = c.saturating_add-self.ensures in let k = d.counts.brief in omega arith; failures = refl; phase = refl })
     refl refl refl in
-    record { model = s.model; sound = s.sound; loaded = s.loaded; check = s.check; held = c.requires.held }
+    record { model = s.model; sound = s.sound; loaded = s.loaded; check = s.check; work = refl }
