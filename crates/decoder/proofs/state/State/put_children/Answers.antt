@@ -41,7 +41,7 @@ pub put_child-requires-in-Parity-clause-costs : goal.put_child-requires-in-Parit
 put_child-requires-in-Parity-clause-costs g c =
     let r = c.requires in
     let v = c.decision-value in
-    found-costs c.args.self.now c.args.c c.parity_sum-bit.result c.contradiction-in-Parity.result _ v.result _ (search rules) r.work v.ensures.value c.path-path.ensures c.contradiction-in-Parity.ensures r.place r.may.metric
+    found-costs c.args.self.now c.args.c _ c.contradiction-in-Parity.result _ v.result _ (search rules) r.work v.ensures.value c.path-path.ensures c.contradiction-in-Parity.ensures r.place r.may.metric
 
 pub returns-in-Parity : goal.returns-in-Parity
 returns-in-Parity g c =
@@ -78,8 +78,8 @@ put_child-requires-in-Information-2 g c =
     record {
       place = let h = r.place in let b = ap (λ k. block_length (plan_in k)) one.frame.framed.block in omega arith;
       ready = ready_on g.S.Store g.C.Judge d e r.may.ready r.may.serials one.frame.phase one.later one.apart.1;
-      costs = costs-on d e c.args.c true c.contradiction-in-Information-2.result one.frame.framed.block one.parent
-          (found-costs d c.args.c true c.contradiction-in-Information-2.result _ v.result _ (search rules) r.work v.ensures.value c.path-path.ensures c.contradiction-in-Information-2.ensures r.place r.may.metric);
+      costs = costs-on d e c.args.c _ c.contradiction-in-Information-2.result one.frame.framed.block one.parent
+          (found-costs d c.args.c _ c.contradiction-in-Information-2.result _ v.result _ (search rules) r.work v.ensures.value c.path-path.ensures c.contradiction-in-Information-2.ensures r.place r.may.metric);
     }
 
 pub returns-in-Information : goal.returns-in-Information
