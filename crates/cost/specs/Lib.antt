@@ -6,3 +6,4 @@ pub mod Limits
 pub mod Block
 pub mod Rows
 pub mod Memo
+pub mod Workspace

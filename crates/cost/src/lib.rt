@@ -6,14 +6,16 @@ mod memo;
 mod rows;
 mod soft;
 pub mod value;
+mod workspace;
 
 pub use memo::Memo;
 pub use rows::Rows;
 pub use soft::{Soft, first_beyond};
+pub use workspace::Workspace;
 
 #[cfg(test)]
 mod tests {
-    use crate::Soft;
+    use crate::{Soft, Workspace};
     use bits::Row;
     use std::test::Fail;
 
@@ -45,12 +47,12 @@ mod tests {
             return Err(Fail::new("two values are a block"));
         };
         let mut scratch = [0; 4];
-        let mut memo = None;
+        let mut work = Workspace::new(&block, &mut scratch);
         let (none, one) = (path(false, false), path(true, false));
-        assert_eq!(rt; block.decision_with(&mut memo, &none, 0, &mut scratch), -3);
-        assert_eq!(rt; block.decision_with(&mut memo, &none, 1, &mut scratch), -2);
-        assert_eq!(rt; block.decision_with(&mut memo, &one, 1, &mut scratch), -8);
-        assert_eq!(rt; block.decision_with(&mut memo, &none, 0, &mut scratch), -3);
+        assert_eq!(rt; work.decision(&none, 0), -3);
+        assert_eq!(rt; work.decision(&none, 1), -2);
+        assert_eq!(rt; work.decision(&one, 1), -8);
+        assert_eq!(rt; work.decision(&none, 0), -3);
         Ok(())
     }
 }

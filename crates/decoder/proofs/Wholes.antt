@@ -4,9 +4,11 @@ use Rattle.std.proofs.lemmas.Bool.{cond-true, cond-false, eq-eqb, ne_eqb}
 use Rattle.outer.specs.declared.check.Judge as Judge
 use Rattle.store.specs.declared.store.Store as Store
 use Rattle.std.proofs.lemmas.Int.{to_z-of_z}
+use Rattle.cost.specs.Block.{llr_of, size_of}
 use Rattle.cost.specs.Values.{contradicts}
 use Rattle.cost.specs.Path.{decision}
 use Rattle.cost.specs.Rows.{path_at}
+use Rattle.cost.specs.declared.soft.Soft.{Soft}
 use Rattle.cost.proofs.Path.{cost-fits}
 use Rattle.plan.specs.Plans.{log_length, block_length}
 use Rattle.search.specs.Lists.{Each}
@@ -23,7 +25,7 @@ use Rattle.model.specs.Blocks.{kinds_of, bits_of, path_cost}
 use Rattle.model.specs.Reading.{first_bits, candidate_in, contents_in}
 use Rattle.model.proofs.Following.{same_read, take-follows}
 use Rattle.model.proofs.Children.{first-length, cost-first, cost-child}
-use Rattle.decoder.specs.Blocks.{plan_in, llr_in}
+use Rattle.decoder.specs.Blocks.{plan_in, llr_in, soft_of}
 use Rattle.decoder.specs.States.{contents_of, loaded_of, RowsApart, ShownWhole, Sound}
 use Rattle.decoder.specs.Phases.{is_loaded}
 use Rattle.decoder.specs.Steps.{path_of, MayPut, MayStep, Ready, Costs, Framed, Searched}
@@ -49,14 +51,17 @@ child-costs d c bit more place metric value =
     let most : path_cost n llr (child p bit) ≤ 2 ^ 30 = cost-fits n llr (bits_of (child p bit)) d.block.plan.sized.1 (λ k h. d.block.soft.bounded k) (length (child p bit)) size in
     record { cost = total; fits = omega arith }
 
--- where the decision value v was found as the program finds it
+-- where the decision value v was found as the program finds it, of soft values that are the block's
 pub found-costs :
-    {S C : Type 0} (d : State S C) (c : Candidate) (bit : Bool) (more : ℕ) (v : ℤ) (u : ℕ → Bool) → SFits w32 v
-    → v ≡ decision (log_length (plan_in d.block)) (llr_in d.block) u c.length → u ≡ path_at d.rows c.row → more ≡ contradicts (to_z w32 (of_z w32 v)) bit
+    {S C : Type 0} (d : State S C) (c : Candidate) (bit : Bool) (more : ℕ) (soft : Soft) (v : ℤ) (u : ℕ → Bool) → SFits w32 v → soft ≡ soft_of d.block
+    → v ≡ decision (size_of soft) (llr_of soft) u c.length → u ≡ path_at d.rows c.row → more ≡ contradicts (to_z w32 (of_z w32 v)) bit
     → c.length < block_length (plan_in d.block) → c.metric ≡ path_cost (log_length (plan_in d.block)) (llr_in d.block) (path_of d c) → Costs d c bit more
-found-costs d c bit more v u fits value path adds place metric =
+found-costs d c bit more soft v u fits same value path adds place metric =
+    let block = d.block in
+    let of-block : v ≡ decision (log_length (plan_in block)) (llr_in block) u c.length =
+    value ∙ ap (λ s. decision (size_of s) (llr_of s) u c.length) same ∙ ap (λ n. decision n (llr_in block) u c.length) block.sized in
     child-costs d c bit more place metric
-    (adds ∙ ap (λ x. contradicts x bit) (to_z-of_z w32 v fits ∙ value ∙ ap (λ p. decision (log_length (plan_in d.block)) (llr_in d.block) p c.length) path))
+    (adds ∙ ap (λ x. contradicts x bit) (to_z-of_z w32 v fits ∙ of-block ∙ ap (λ p. decision (log_length (plan_in block)) (llr_in block) p c.length) path))
 
 pub costs-on :
     {S C : Type 0} (d d' : State S C) (c : Candidate) (bit : Bool) (more : ℕ) → d'.block ≡ d.block → path_of d' c ≡ path_of d c

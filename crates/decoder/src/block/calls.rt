@@ -1,14 +1,11 @@
-// Making a block, and what it says of the path in a row. For the decoder alone: hence the `requires`. Assumes nothing.
-ghost use Rattle.std.specs.Prelude.{◌≡◌, ℕ, ◌*◌, ◌^◌, ◌<◌, ◌≤◌, true, false, length, pos, MatchOption, slice_index_or};
-ghost use Rattle.bits.specs.Row.{row_bit};
+// Making a block, and reading it. Assumes nothing.
+ghost use Rattle.std.specs.Prelude.{◌≡◌, ℕ, true, false, pos, MatchOption, slice_index_or};
 ghost use Rattle.cost.specs.Limits.{is_loadable};
-ghost use Rattle.cost.specs.Path.{decision};
-ghost use Rattle.decoder.specs.Blocks.{plan_in, llr_in, HeldIn};
-ghost use Rattle.plan.specs.Plans.{log_length, block_length};
+ghost use Rattle.decoder.specs.Blocks.{plan_in, llr_in, soft_of};
+ghost use Rattle.plan.specs.Plans.{log_length};
 
 use super::Block;
-use bits::Row;
-use cost::{Memo, Soft};
+use cost::Soft;
 use plan::Plan;
 
 impl Block {
@@ -37,20 +34,9 @@ impl Block {
         &self.plan
     }
 
-    // The decision value at position i of the path in row, from what scratch holds of the last one.
-    pub fn decision(
-        &self,
-        memo: &mut Option<Memo>,
-        path: &Row,
-        i: usize,
-        scratch: &mut [i32],
-    ) -> i32
-        requires place { i < block_length (plan_in self.now) }
-        requires room { 2 * block_length (plan_in self.now) ≤ length scratch.old }
-        requires held { HeldIn self.now memo.old scratch.old }
-        ensures value { result ≡ decision (log_length (plan_in self.now)) (llr_in self.now) (row_bit path.now) i }
-        ensures held { HeldIn self.now memo.new scratch.new }
+    pub fn soft(&self) -> &Soft
+        ensures { result.now ≡ soft_of self.now }
     {
-        self.soft.decision_with(memo, path, i, scratch)
+        &self.soft
     }
 }

@@ -1,7 +1,8 @@
 // One step of the search. For the decoder alone: hence the `requires`. Assumes nothing.
-ghost use Rattle.std.specs.Prelude.{◌≡◌, suc, ◌+◌, ◌*◌, ◌<◌, ◌≤◌, true, ◌&&◌, length};
+ghost use Rattle.std.specs.Prelude.{◌≡◌, ◌+◌, ◌<◌, ◌≤◌, true, ◌&&◌};
 ghost use Rattle.cost.specs.Rows.{path_at};
-ghost use Rattle.decoder.specs.Blocks.{plan_in, llr_in, HeldIn};
+ghost use Rattle.cost.specs.Workspace.{soft_in};
+ghost use Rattle.decoder.specs.Blocks.{plan_in, soft_of};
 ghost use Rattle.decoder.specs.States.{loaded_of, RowsApart, ShownWhole, Sound};
 ghost use Rattle.decoder.specs.Phases.{is_loaded};
 ghost use Rattle.decoder.specs.Steps.{path_of, MayPut, MayStep, Ready, Costs, Framed, Searched};
@@ -19,7 +20,7 @@ use crate::path::{gather, is_information};
 use crate::phase::Phase;
 use crate::rows::free_row;
 use code::parity_sum;
-use cost::Memo;
+use cost::Workspace;
 use cost::value::contradiction;
 use outer::Judge;
 use plan::Kind;
@@ -77,19 +78,18 @@ impl<S: Store, C: Judge> State<S, C> {
     }
 
     // Puts the children of c, 0 before 1.
-    fn put_children(&mut self, c: Candidate, memo: &mut Option<Memo>, scratch: &mut [i32])
+    fn put_children(&mut self, c: Candidate, work: &mut Workspace)
         requires place { c.length < block_length (plan_in self.old.block) }
-        requires room { 2 * block_length (plan_in self.old.block) ≤ length scratch.old }
-        requires held { HeldIn self.old.block memo.old scratch.old }
+        requires work { soft_in work.old ≡ soft_of self.old.block }
         requires may { MayPut S.Store C.Judge self.old c }
         ensures model { loaded_of S.Store C.Judge self.new ≡ search.put_children ruled (path_of self.old c) (loaded_of S.Store C.Judge self.old) (allowed (kinds_of (plan_in self.old.block)) (path_of self.old c)) }
         ensures apart { ((RowsApart (S.kept self.old.store) → RowsApart (S.kept self.new.store))) × (self.new.counts.serial ≤ self.old.counts.serial + 2) }
         ensures frame { Searched self.old self.new }
-        ensures held { HeldIn self.old.block memo.new scratch.new }
+        ensures work { soft_in work.new ≡ soft_in work.old }
     {
         let path = self.rows.path(c.row as usize);
         let at = c.length as usize;
-        let value = self.block.decision(memo, &path, at, scratch);
+        let value = work.decision(&path, at);
         match self.block.plan().kind(at) {
             Kind::Frozen => self.put_child(c, false, contradiction(value, false)),
             Kind::Parity => {
@@ -133,22 +133,21 @@ impl<S: Store, C: Judge> State<S, C> {
     }
 
     // Takes the first candidate, and judges it or puts its children.
-    pub(crate) fn step(&mut self, memo: &mut Option<Memo>, scratch: &mut [i32])
+    pub(crate) fn step(&mut self, work: &mut Workspace)
         requires may { MayStep S.Store C.Judge self.old }
-        requires room { 2 * block_length (plan_in self.old.block) ≤ length scratch.old }
-        requires held { HeldIn self.old.block memo.old scratch.old }
+        requires work { soft_in work.old ≡ soft_of self.old.block }
         ensures model { loaded_of S.Store C.Judge self.new ≡ search.step ruled (loaded_of S.Store C.Judge self.old) }
         ensures sound { Sound S.Store C.Judge self.new }
         ensures loaded { is_loaded self.new.phase ≡ true }
         ensures check { (self.new.check ≡ self.old.check) × (self.new.block ≡ self.old.block) }
-        ensures held { HeldIn self.old.block memo.new scratch.new }
+        ensures work { soft_in work.new ≡ soft_in work.old }
     {
         let Some(c) = self.store.take() else {
             return;
         };
         self.counts.steps = self.counts.steps.saturating_add(1);
         if (c.length as usize) < self.block.plan().length() {
-            self.put_children(c, memo, scratch);
+            self.put_children(c, work);
             return;
         }
         self.judge(c);

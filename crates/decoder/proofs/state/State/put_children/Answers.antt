@@ -20,7 +20,7 @@ pub put_child-requires-clause-costs : goal.put_child-requires-clause-costs
 put_child-requires-clause-costs g c =
     let r = c.requires in
     let v = c.decision-value in
-    found-costs c.args.self.now c.args.c false c.contradiction.result v.result _ (search rules) v.ensures.value c.path-path.ensures c.contradiction.ensures r.place r.may.metric
+    found-costs c.args.self.now c.args.c false c.contradiction.result _ v.result _ (search rules) r.work v.ensures.value c.path-path.ensures c.contradiction.ensures r.place r.may.metric
 
 pub returns-in-Frozen : goal.returns-in-Frozen
 returns-in-Frozen g c =
@@ -32,7 +32,7 @@ returns-in-Frozen g c =
       model = one.model ∙ ap (put_children ruled (path_of d c.args.c) (loaded_of g.S.Store g.C.Judge d)) (sym (allowed-first (kinds_of (plan_in d.block)) (path_at d.rows c.args.c.row) i frozen kind));
       apart = (one.apart.0, let h = one.apart.1 in omega arith);
       frame = one.frame;
-      held = c.decision-value.ensures.held;
+      work = c.decision-value.ensures.block;
     }
 
 -- Parity
@@ -41,7 +41,7 @@ pub put_child-requires-in-Parity-clause-costs : goal.put_child-requires-in-Parit
 put_child-requires-in-Parity-clause-costs g c =
     let r = c.requires in
     let v = c.decision-value in
-    found-costs c.args.self.now c.args.c c.parity_sum-bit.result c.contradiction-in-Parity.result v.result _ (search rules) v.ensures.value c.path-path.ensures c.contradiction-in-Parity.ensures r.place r.may.metric
+    found-costs c.args.self.now c.args.c _ c.contradiction-in-Parity.result _ v.result _ (search rules) r.work v.ensures.value c.path-path.ensures c.contradiction-in-Parity.ensures r.place r.may.metric
 
 pub returns-in-Parity : goal.returns-in-Parity
 returns-in-Parity g c =
@@ -57,7 +57,7 @@ returns-in-Parity g c =
       model = one.model ∙ ap (put_children ruled (path_of d c.args.c) (loaded_of g.S.Store g.C.Judge d)) (ap (λ b. b ∷ []) sum ∙ sym (allowed-first (kinds_of p) u i parity kind));
       apart = (one.apart.0, let h = one.apart.1 in omega arith);
       frame = one.frame;
-      held = c.decision-value.ensures.held;
+      work = c.decision-value.ensures.block;
     }
 
 -- Information
@@ -66,7 +66,7 @@ pub put_child-requires-in-Information-clause-costs : goal.put_child-requires-in-
 put_child-requires-in-Information-clause-costs g c =
     let r = c.requires in
     let v = c.decision-value in
-    found-costs c.args.self.now c.args.c false c.contradiction-in-Information.result v.result _ (search rules) v.ensures.value c.path-path.ensures c.contradiction-in-Information.ensures r.place r.may.metric
+    found-costs c.args.self.now c.args.c false c.contradiction-in-Information.result _ v.result _ (search rules) r.work v.ensures.value c.path-path.ensures c.contradiction-in-Information.ensures r.place r.may.metric
 
 pub put_child-requires-in-Information-2 : goal.put_child-requires-in-Information-2
 put_child-requires-in-Information-2 g c =
@@ -78,8 +78,8 @@ put_child-requires-in-Information-2 g c =
     record {
       place = let h = r.place in let b = ap (λ k. block_length (plan_in k)) one.frame.framed.block in omega arith;
       ready = ready_on g.S.Store g.C.Judge d e r.may.ready r.may.serials one.frame.phase one.later one.apart.1;
-      costs = costs-on d e c.args.c true c.contradiction-in-Information-2.result one.frame.framed.block one.parent
-          (found-costs d c.args.c true c.contradiction-in-Information-2.result v.result _ (search rules) v.ensures.value c.path-path.ensures c.contradiction-in-Information-2.ensures r.place r.may.metric);
+      costs = costs-on d e c.args.c _ c.contradiction-in-Information-2.result one.frame.framed.block one.parent
+          (found-costs d c.args.c _ c.contradiction-in-Information-2.result _ v.result _ (search rules) r.work v.ensures.value c.path-path.ensures c.contradiction-in-Information-2.ensures r.place r.may.metric);
     }
 
 pub returns-in-Information : goal.returns-in-Information
@@ -95,5 +95,5 @@ returns-in-Information g c =
           ∙ ap (put_children ruled (path_of d c.args.c) (loaded_of g.S.Store g.C.Judge d)) (sym (allowed-first (kinds_of (plan_in d.block)) (path_at d.rows c.args.c.row) i information kind));
       apart = (λ h. two.apart.0 (one.apart.0 h), let a = one.apart.1 in let b = two.apart.1 in omega arith);
       frame = searched-on d c.put_child-in-Information.new.self c.put_child-in-Information-2.new.self one.frame two.frame;
-      held = c.decision-value.ensures.held;
+      work = c.decision-value.ensures.block;
     }

@@ -26,7 +26,7 @@ returns-then-c-length g c =
     let steps : c.saturating_add-self.result ≡ suc d.counts.steps = let h = c.saturating_add-self.ensures in let k = d.counts.brief in let m = may.steps in omega arith in
     let part : c.in-Some.c.length < block_length (plan_in d.block) = let h = c.if-c-length.true in let k = c.length.ensures.result ∙ ap block_length c.plan.ensures in omega arith in
     let s = children-step g.S.Store g.C.Judge d _ c.put_children.new.self c.in-Some.c may part done.model done.apart done.frame (after-take g.S.Store g.C.Judge d c.take.new.self c.saturating_add-self.result _ _ c.in-Some.c (sym took.result ∙ c.in-Some.is) took.kept took.capacity took.floor steps) refl refl refl in
-    record { model = s.model; sound = s.sound; loaded = s.loaded; check = s.check; held = done.held }
+    record { model = s.model; sound = s.sound; loaded = s.loaded; check = s.check; work = done.work }
 
 pub returns : goal.returns
 returns g c =
@@ -37,4 +37,4 @@ returns g c =
     let steps : c.saturating_add-self.result ≡ suc d.counts.steps = let h = c.saturating_add-self.ensures in let k = d.counts.brief in let m = may.steps in omega arith in
     let long : block_length (plan_in d.block) ≤ c.in-Some.c.length = let h = c.if-c-length.false in let k = c.length.ensures.result ∙ ap block_length c.plan.ensures in omega arith in
     let s = word-step g.S.Store g.C.Judge d _ c.judge.new.self c.in-Some.c may long done.model done.store done.frame done.shown done.loaded (after-take g.S.Store g.C.Judge d c.take.new.self c.saturating_add-self.result _ _ c.in-Some.c (sym took.result ∙ c.in-Some.is) took.kept took.capacity took.floor steps) refl refl refl in
-    record { model = s.model; sound = s.sound; loaded = s.loaded; check = s.check; held = c.requires.held }
+    record { model = s.model; sound = s.sound; loaded = s.loaded; check = s.check; work = refl }
