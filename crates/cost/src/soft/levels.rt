@@ -1,5 +1,6 @@
 // Decision values by level, in scratch: level m from place 2^m on, the soft values themselves at the top.
-// For the decoder and the programs of this repository, which hand in room enough: hence the `requires`.
+// For the decoder and the programs of this repository, which hand in room enough: hence the `requires`. It is asked of
+// each, and not of a type, since what scratch holds after is promised of the slice itself.
 ghost use Rattle.std.specs.Prelude.{◌≡◌, ℕ, suc, ◌+◌, ◌*◌, ◌^◌, ◌<◌, ◌≤◌, ℤ, length, pos, slice_index_or, unsigned_abs};
 ghost use Rattle.bits.specs.Row.{row_bit};
 ghost use Rattle.cost.specs.Block.{llr_of, size_of};
