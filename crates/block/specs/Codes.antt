@@ -1,5 +1,5 @@
 -- The codes of outer checks and candidate stores; a code that is not listed has none. Assumes nothing.
-use Rattle.std.specs.Prelude.{◌≡◌, ℕ, cond, Some, None, Option, Ok, Err, Result, ◌==◌}
+use Rattle.std.specs.Prelude.{◌≡◌, ℕ, cond, List, ◌++◌, codes, decimal, Some, None, Option, Ok, Err, Result, ◌==◌}
 use Rattle.block.specs.declared.code.CheckCode.{CheckCode}
 use Rattle.block.specs.declared.code.CheckCode.TheVariants as check
 use Rattle.block.specs.declared.code.StoreCode.{StoreCode}
@@ -45,3 +45,17 @@ check_code c = check_bits c
 abbrev pub store_code : StoreCode → ℕ
 store_code store.Table = 0
 store_code store.Heap = 1
+
+abbrev pub check_name : CheckCode → List ℕ
+check_name check.None = codes "none"
+check_name check.Trailing6 = codes "trailing, 6 bits"
+check_name check.Trailing11 = codes "trailing, 11 bits"
+check_name check.Spread4 = codes "spread, 4 bits"
+check_name check.Spread24 = codes "spread, 24 bits"
+
+abbrev pub store_name : StoreCode → List ℕ
+store_name store.Table = codes "table"
+store_name store.Heap = codes "heap"
+
+abbrev pub unlisted_text : Unlisted → List ℕ
+unlisted_text e = codes "code " ++ (decimal (e.0) ++ codes " is not listed")

@@ -1,6 +1,6 @@
 // The codes by which a block file names an outer check and a candidate store. Assumes nothing.
-ghost use Rattle.std.specs.Prelude.{◌≡◌};
-ghost use Rattle.block.specs.Codes.{Named, check_of, store_of, check_code, store_code, check_bits, longest_payload};
+ghost use Rattle.std.specs.Prelude.{◌≡◌, Some};
+ghost use Rattle.block.specs.Codes.{Named, check_of, store_of, check_code, store_code, check_bits, longest_payload, check_name, store_name};
 
 use crate::unlisted::Unlisted;
 use std::fmt;
@@ -73,6 +73,8 @@ impl From<CheckCode> for u8 {
 }
 
 impl fmt::Display for CheckCode {
+    ghost output = { λ check. Some (check_name check) };
+
     fn fmt<W: fmt::Write>(&self, f: &mut fmt::Formatter<W>) -> fmt::Result {
         f.write_str(match self {
             CheckCode::None => "none",
@@ -119,6 +121,8 @@ impl From<StoreCode> for u8 {
 }
 
 impl fmt::Display for StoreCode {
+    ghost output = { λ store. Some (store_name store) };
+
     fn fmt<W: fmt::Write>(&self, f: &mut fmt::Formatter<W>) -> fmt::Result {
         f.write_str(match self {
             StoreCode::Table => "table",

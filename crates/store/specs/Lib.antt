@@ -5,3 +5,4 @@ pub mod Ordered
 pub mod Promises
 pub mod Slots
 pub mod Tables
+pub mod Texts

@@ -2,9 +2,10 @@
 ghost use Rattle.std.specs.Cmp.{partial_order_from_own_ties};
 ghost use Rattle.std.specs.Cmp.Rules.{comparing};
 ghost use Rattle.std.specs.Ordering.{as_partial_cmp};
-ghost use Rattle.std.specs.Prelude.{◌≡◌};
+ghost use Rattle.std.specs.Prelude.{◌≡◌, Some};
 ghost use Rattle.std.proofs.Common.{rules};
 ghost use Rattle.store.specs.Order.{before, compared};
+ghost use Rattle.store.specs.Texts.{candidate_text};
 
 use std::cmp::Ordering;
 use std::fmt;
@@ -59,6 +60,8 @@ impl PartialOrd for Candidate {
 }
 
 impl fmt::Display for Candidate {
+    ghost output = { λ c. Some (candidate_text c) };
+
     fn fmt<W: fmt::Write>(&self, f: &mut fmt::Formatter<W>) -> fmt::Result {
         write!(
             f,

@@ -1,4 +1,7 @@
 // A call of a store, and what it answers. Assumes nothing.
+ghost use Rattle.std.specs.Prelude.{Some};
+ghost use Rattle.storecalls.specs.Texts.{answer_text};
+
 use std::fmt;
 use store::Candidate;
 
@@ -29,6 +32,8 @@ pub enum Answer {
 }
 
 impl fmt::Display for Answer {
+    ghost output = { λ answer. Some (answer_text answer) };
+
     fn fmt<W: fmt::Write>(&self, f: &mut fmt::Formatter<W>) -> fmt::Result {
         match self {
             Answer::Done => f.write_str("done"),

@@ -2,11 +2,9 @@
 #![tactic(auto)]
 
 mod call;
-mod parse;
 mod plays;
 #[cfg(test)]
 mod tests;
 
 pub use call::{Answer, Call};
-pub use parse::NoCall;
 pub use plays::play;

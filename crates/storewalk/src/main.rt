@@ -5,8 +5,38 @@
 use heap::Heap;
 use std::alloc::{AllocError, Global};
 use std::io;
-use store::{Store, Table};
-use storecalls::{Call, NoCall, play};
+use std::num::ParseIntError;
+use store::{Candidate, Store, Table};
+use storecalls::{Call, play};
+
+// The words of a line name no call.
+struct NoCall;
+
+impl From<ParseIntError> for NoCall {
+    fn from(_: ParseIntError) -> NoCall {
+        NoCall
+    }
+}
+
+// The call that the words of a line name.
+fn call_of(words: &[&str]) -> Result<Call, NoCall> {
+    Ok(match words {
+        ["empty", size] => Call::Empty(size.parse()?),
+        ["put", metric, length, serial, row] => Call::Put(Candidate {
+            metric: metric.parse()?,
+            length: length.parse()?,
+            serial: serial.parse()?,
+            row: row.parse()?,
+        }),
+        ["take"] => Call::Take,
+        ["count"] => Call::Count,
+        ["capacity"] => Call::Capacity,
+        ["first"] => Call::FirstMetric,
+        ["floor"] => Call::Floor,
+        ["holds", row] => Call::HoldsRow(row.parse()?),
+        _ => return Err(NoCall),
+    })
+}
 
 // What one store answers, and how many it then keeps.
 fn told<S: Store>(heap: Global, store: &mut S, call: Call) -> Result<String, AllocError> {
@@ -22,7 +52,7 @@ fn main(rt: HostRuntime) -> io::Result<()> {
     for line in rt.lines(heap) {
         let line = line?;
         let words: Vec<&str> = line.as_str().split(' ').collect(heap)?;
-        match Call::try_from(words.as_slice()) {
+        match call_of(words.as_slice()) {
             Ok(call) => {
                 let first = told(heap, &mut table, call)?;
                 let second = told(heap, &mut binary, call)?;
