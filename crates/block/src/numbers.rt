@@ -68,7 +68,7 @@ impl Numbers for PlanNumbers {
 }
 
 impl PlanNumbers {
-    // The plan that these numbers ask for. No From: `plan.make(&numbers.request())` says what is made.
+    // The plan that these numbers ask for. No From: `Plan::try_from(&numbers.request())` says what is made.
     pub fn request(&self) -> Request
         ensures { result ≡ request_of self.now }
     {

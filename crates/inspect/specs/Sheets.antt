@@ -1,6 +1,6 @@
 -- What the checklist says of a block file: the first refusal of file or plan, or the plan; and the soft values present
 -- against the grant. Assumes nothing.
-use Rattle.std.specs.Prelude.{◌≡◌, ℕ, ◌-◌, ◌/◌, cond, List, length, is_some, Some, None, Option, Ok, Err, Result}
+use Rattle.std.specs.Prelude.{◌≡◌, ℕ, ◌-◌, ◌/◌, cond, List, ◌++◌, length, codes, decimal, is_some, Some, None, Option, Ok, Err, Result, ◌==◌}
 use Rattle.plan.specs.Plans.{Planned}
 use Rattle.plan.specs.Requests.{verdict}
 use Rattle.block.specs.declared.due.Due.TheVariants as due
@@ -18,6 +18,12 @@ granted_soft input granted = record { present = (length input - 27) / 2; granted
 -- the values that are there, and how many the plan field grants
 abbrev pub soft_count : List ℕ → SoftCount
 soft_count input = granted_soft input (sent_of input)
+
+-- line A, under the place where the values stand
+abbrev pub soft_text : SoftCount → List ℕ
+soft_text count =
+    codes "field values at 24\nA soft values: " ++ (decimal count.present ++ (codes " present, " ++ (decimal count.granted ++ (codes " granted: "
+    ++ (cond (count.present == count.granted) (codes "as granted") (codes "NOT as granted") ++ codes "\n")))))
 
 -- the count is there where the fields before the values have no fault
 abbrev pub counted_soft : List ℕ → Option SoftCount

@@ -1,4 +1,7 @@
-// The checklist as text. Tested, not proved: that it is written, and not what.
+// The checklist as text. But for line A it is tested, not proved: that it is written, and not what.
+ghost use Rattle.std.specs.Prelude.{Some};
+ghost use Rattle.inspect.specs.Sheets.{soft_text};
+
 use crate::sheet::{BadSheet, Sheet, SoftCount};
 use crate::words::write_fault;
 use block::{PlanNumbers, SearchNumbers};
@@ -39,6 +42,8 @@ impl fmt::Display for BadSheet {
 
 // Line A, under the place where the values stand.
 impl fmt::Display for SoftCount {
+    ghost output = { λ count. Some (soft_text count) };
+
     fn fmt<W: fmt::Write>(&self, f: &mut fmt::Formatter<W>) -> fmt::Result {
         let SoftCount { present, granted } = *self;
         let verdict = if present == granted {

@@ -10,7 +10,7 @@ use crate::candidate::Candidate;
 use crate::minimum::lesser;
 use crate::store::{BLANK, MOST, held_capacity};
 
-// The candidates in use stand in front, in an order that is each store's own.
+// The candidates in use stand in front, in an order that is each store's own. An array and a length: stores want no heap.
 #[derive(Clone, Copy, Drop)]
 pub struct Slots {
     all: [Candidate; MOST],
