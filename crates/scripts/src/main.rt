@@ -22,6 +22,7 @@ fn of_script<'a>(lines: &'a [&'a str]) -> &'a [&'a str] {
 
 // Plays the scripts that the lines hold; what comes before the first is malformed.
 fn play_all(rt: &HostRuntime, lines: &[&str]) -> io::Result<()> {
+    // counted beside the lines: scripts are fewer
     let mut count = 0u64;
     for (k, line) in lines.iter().enumerate() {
         match Setup::read(line) {

@@ -20,8 +20,11 @@ impl Script {
         };
         for line in lines {
             let words: Vec<&str> = line.split(' ').collect(heap)?;
-            let call = script.ask(words.as_slice())?;
-            script.lines.push(call)?;
+            let asked = asked_by(words.as_slice(), script.values.len());
+            if let Ok(asked) = &asked {
+                script.add_values(asked.soft)?;
+            }
+            script.lines.push(asked.map(|asked| asked.call))?;
         }
         Ok(script)
     }
@@ -29,16 +32,6 @@ impl Script {
     // The calls alone.
     pub fn calls(&self, heap: Global) -> Result<Vec<Call>, AllocError> {
         self.lines.iter().filter_map(|line| line.ok()).collect(heap)
-    }
-
-    fn ask(&mut self, words: &[&str]) -> Result<Result<Call, NoCall>, AllocError> {
-        match asked_by(words, self.values.len()) {
-            Ok(asked) => {
-                self.add_values(asked.soft)?;
-                Ok(Ok(asked.call))
-            }
-            Err(reason) => Ok(Err(reason)),
-        }
     }
 
     fn add_values(&mut self, words: &[&str]) -> Result<(), AllocError> {

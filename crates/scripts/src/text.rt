@@ -114,6 +114,7 @@ impl<S: Store + Copy, C: Judge> fmt::Display for KeptList<'_, S, C> {
     fn fmt<W: fmt::Write>(&self, f: &mut fmt::Formatter<W>) -> fmt::Result {
         write!(f, "kept")?;
         let mut store = *self.0.store();
+        // a store hands out no more than it may keep
         for _ in 0..MOST {
             let Some(candidate) = store.take() else {
                 break;

@@ -50,8 +50,8 @@ fn write_field(file: &mut Vec<u8>, tag: u8, body: &[u8]) -> Result<(), AllocErro
     requires short { length body.now < 65536 }
     ensures { OnOk result (file.new.items ≡ file.old.items ++ written tag body.now) }
 {
-    let length = body.len();
-    file.extend_from_slice(&[tag, (length / 256) as u8, (length % 256) as u8])?;
+    let [high, low] = (body.len() as u16).to_be_bytes();
+    file.extend_from_slice(&[tag, high, low])?;
     file.extend_from_slice(body)?;
     Ok(())
 }
