@@ -19,11 +19,11 @@ pub enum Layer {
     Report,
 }
 
-impl fmt::Display for Layer {
-    ghost output = { λ l. Some (layer_name l) };
-
-    fn fmt<W: fmt::Write>(&self, f: &mut fmt::Formatter<W>) -> fmt::Result {
-        f.write_str(match self {
+impl Layer {
+    pub fn name(self) -> &'static str
+        ensures { result.now ≡ layer_name self }
+    {
+        match self {
             Layer::File => "file",
             Layer::Plan => "plan",
             Layer::Laying => "laying",
@@ -34,7 +34,15 @@ impl fmt::Display for Layer {
             Layer::Strike => "strike",
             Layer::Word => "word",
             Layer::Report => "report",
-        })
+        }
+    }
+}
+
+impl fmt::Display for Layer {
+    ghost output = { λ l. Some (layer_name l) };
+
+    fn fmt<W: fmt::Write>(&self, f: &mut fmt::Formatter<W>) -> fmt::Result {
+        f.write_str(self.name())
     }
 }
 
