@@ -1,6 +1,7 @@
 // The soft values of a block, within limits. Assumes nothing.
 ghost use Rattle.std.specs.Prelude.{◌≡◌, ℕ, ◌≤◌, length, pos, slice_index_or, unsigned_abs};
 
+mod again;
 mod levels;
 mod load;
 mod total;

@@ -2,7 +2,7 @@ use Rattle.std.proofs.Common.{◌≡◌, ◌*◌, ◌/◌, ◌%◌, ◌^◌, ◌
 use Rattle.bits.specs.Row.{row_bit, same_bits}
 use Rattle.bits.proofs.Agreement.{bits_at}
 use Rattle.cost.specs.Levels.{start}
-use Rattle.cost.proofs.workspace.is_shared.Goals as goal
+use Rattle.cost.proofs.soft.again.is_shared.Goals as goal
 
 pub returns-then-i-m : goal.returns-then-i-m
 returns-then-i-m c = λ yes.
