@@ -1,4 +1,3 @@
-pub mod Greatest
 pub mod Kept
 pub mod Sifts
 pub mod Writes

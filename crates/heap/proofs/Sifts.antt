@@ -129,6 +129,21 @@ left-first xs n p l h = record {
   ];
 }
 
+-- one slot more is looked at for the last
+module _ (xs : List Candidate) (start last i : ℕ) (found : (k : ℕ) → start ≤ k → k < i → NotBefore xs last k) where
+  pub last-here : before (at xs last) (at xs i) ≡ true → (k : ℕ) → start ≤ k → k < i + 1 → NotBefore xs i k
+  last-here h k a b =
+      elim (cases_eq k i) [
+        | inl e ↦ ap (λ m. before (at xs i) (at xs m)) e ∙ strict.irreflexive _
+        | inr e ↦ by-test (before (at xs i) (at xs k))
+            (λ t. absurd (both_ways _ (found k a (omega (arith, e))) (strict.transitive _ _ _ h t)))
+            (λ f. f)
+      ]
+
+  pub last-before : NotBefore xs last i → (k : ℕ) → start ≤ k → k < i + 1 → NotBefore xs last k
+  last-before h k a b =
+      elim (cases_eq k i) [ inl e ↦ ap (λ m. before (at xs last) (at xs m)) e ∙ h | inr e ↦ found k a (omega (arith, e)) ]
+
 -- what `swap` says of its places
 pub swapped-places :
     (xs ys : List Candidate) (i j : ℕ) → ((d : Candidate) → slice_index_or ys i d ≡ slice_index_or xs j d) → ((d : Candidate) → slice_index_or ys j d ≡ slice_index_or xs i d)

