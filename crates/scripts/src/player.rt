@@ -49,12 +49,12 @@ fn print_played<S: Store + Copy, C: Judge>(
     answers: &[Result<Answer, Refusal>],
     decoder: &mut Decoder<S, C>,
 ) -> io::Result<()> {
-    let mut answers = answers.iter();
+    let mut played = script.calls.iter().zip(answers);
     for line in &script.lines {
         match line {
             Err(reason) => println!(rt; "{reason}")?,
-            Ok(call) => {
-                if let Some(answer) = answers.next() {
+            Ok(()) => {
+                if let Some((call, answer)) = played.next() {
                     print_call(rt, answer, decoder, *call, script.values.as_slice())?;
                 }
             }
@@ -72,12 +72,11 @@ fn play_over<S: Store + Copy>(
     setup.use_store(&mut store);
     let mut scratch = [0; LONGEST];
     let mut output = [0; LONGEST];
-    let calls = script.calls(rt.alloc())?;
     let (_, answers) = replay(
         rt.alloc(),
         store,
         setup.check,
-        calls.as_slice(),
+        script.calls.as_slice(),
         script.values.as_slice(),
         &mut scratch,
         &mut output,

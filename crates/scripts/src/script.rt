@@ -4,10 +4,12 @@ use crate::refused::NoCall;
 use replay::Call;
 use std::alloc::{AllocError, Global};
 
+// A call holds a whole plan: a line says only whether the next call is its own.
 #[derive(Drop)]
 pub struct Script {
-    // what each line comes to
-    pub lines: Vec<Result<Call, NoCall>>,
+    pub lines: Vec<Result<(), NoCall>>,
+    // of the lines that make one, in turn
+    pub calls: Vec<Call>,
     // the soft values of all loads
     pub values: Vec<i32>,
 }
@@ -16,22 +18,21 @@ impl Script {
     pub fn read(heap: Global, lines: &[&str]) -> Result<Script, AllocError> {
         let mut script = Script {
             lines: Vec::new(heap),
+            calls: Vec::new(heap),
             values: Vec::new(heap),
         };
         for line in lines {
             let words: Vec<&str> = line.split(' ').collect(heap)?;
-            let asked = asked_by(words.as_slice(), script.values.len());
-            if let Ok(asked) = &asked {
-                script.add_values(asked.soft)?;
+            match asked_by(words.as_slice(), script.values.len()) {
+                Ok(asked) => {
+                    script.add_values(asked.soft)?;
+                    script.calls.push(asked.call)?;
+                    script.lines.push(Ok(()))?;
+                }
+                Err(reason) => script.lines.push(Err(reason))?,
             }
-            script.lines.push(asked.map(|asked| asked.call))?;
         }
         Ok(script)
-    }
-
-    // The calls alone.
-    pub fn calls(&self, heap: Global) -> Result<Vec<Call>, AllocError> {
-        self.lines.iter().filter_map(|line| line.ok()).collect(heap)
     }
 
     fn add_values(&mut self, words: &[&str]) -> Result<(), AllocError> {

@@ -53,13 +53,8 @@ impl fmt::Display for Outcome {
     }
 }
 
-#[derive(Clone, Copy)]
-struct Digit(bool);
-
-impl fmt::Display for Digit {
-    fn fmt<W: fmt::Write>(&self, f: &mut fmt::Formatter<W>) -> fmt::Result {
-        f.write_char(if self.0 { '1' } else { '0' })
-    }
+fn digit(bit: bool) -> char {
+    if bit { '1' } else { '0' }
 }
 
 // What a granted call answers.
@@ -74,7 +69,7 @@ impl fmt::Display for Told<'_> {
             Answer::Payload(payload) => {
                 write!(f, "payload ")?;
                 for bit in payload.as_slice() {
-                    write!(f, "{}", Digit(*bit != 0))?;
+                    f.write_char(digit(*bit != 0))?;
                 }
                 Ok(())
             }
@@ -98,12 +93,23 @@ impl fmt::Display for Kept {
             ..
         } = self.candidate;
         write!(f, "{metric}:{length}:{serial}:")?;
-        // by position: a row is no list
-        for k in 0..usize::from(length) {
-            write!(f, "{}", Digit(self.path.get(k)))?;
-        }
-        Ok(())
+        write_path(f, &self.path, usize::from(length))
     }
+}
+
+// The first bits of a row, 64 at a time: to write each by itself costs more than to find it.
+fn write_path<W: fmt::Write>(f: &mut fmt::Formatter<W>, path: &Row, length: usize) -> fmt::Result {
+    for start in (0..length).step_by(64) {
+        let mut digits = [b'0'; 64];
+        for (k, digit) in digits.iter_mut().enumerate() {
+            if path.get(start.saturating_add(k)) {
+                *digit = b'1';
+            }
+        }
+        let part = &digits[..(length - start).min(64)];
+        f.write_str(str::from_utf8(part).map_err(|_| fmt::Error)?)?;
+    }
+    Ok(())
 }
 
 // The kept candidates of a decoder in order; they are taken from a copy of its store.
