@@ -14,7 +14,7 @@ impl Payload {
     ghost use Rattle.replay.specs.Plays.{bytes_in, held};
 
     // The bytes, as many as fit.
-    pub(crate) fn new(bytes: &[u8]) -> Payload
+    pub fn new(bytes: &[u8]) -> Payload
         ensures { result ≡ held bytes.now }
     {
         let len = bytes.len().min(LONGEST);
