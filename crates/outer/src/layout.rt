@@ -46,7 +46,8 @@ impl Layout {
         ensures { result ≡ broken self.kind self.payload_bits beginning.now }
     {
         let mut sums = 0;
-        for (bit, value) in self.bits().zip(beginning) {
+        // The beginning first: behind its end no bit of the order is looked for.
+        for (value, bit) in beginning.iter().zip(self.bits()) {
             if self.disagrees(sums, bit, *value) {
                 return true;
             }

@@ -6,7 +6,7 @@ use Rattle.crc.proofs.Turns.{judged}
 use Rattle.outer.specs.Order.{left}
 use Rattle.outer.proofs.layout.Layout.breaks.Given as goal
 
-abbrev pub invariant-loop-bit : goal.invariant-loop-bit
-invariant-loop-bit l =
-    judged l.self.kind l.self.payload_bits l.sums (left (zip_first l.bit-iterator)) (iter_rest (zip_second l.bit-iterator))
+abbrev pub invariant-loop-value : goal.invariant-loop-value
+invariant-loop-value l =
+    judged l.self.kind l.self.payload_bits l.sums (left (zip_second l.value-iterator)) (iter_rest (zip_first l.value-iterator))
     ≡ broken l.self.kind l.self.payload_bits l.beginning
