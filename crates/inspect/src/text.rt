@@ -1,4 +1,4 @@
-// The checklist as text. But for line A it is tested, not proved: that it is written, and not what.
+// The checklist as text. But for the text of a `SoftCount`, line A by itself, it is tested, not proved: that it is written, and not what.
 ghost use Rattle.std.specs.Prelude.{Some};
 ghost use Rattle.inspect.specs.Sheets.{soft_text};
 
