@@ -48,7 +48,7 @@ fn limits_of(capacity: &str, failures: &str, steps: &str) -> Result<Limits, NoCa
     })
 }
 
-// A call, and the words of the soft values that it loads.
+// A load, and the words of the soft values that it loads.
 #[derive(Clone, Copy)]
 pub struct Asked<'a> {
     pub call: Call,
@@ -56,7 +56,7 @@ pub struct Asked<'a> {
 }
 
 // The words after `load`. The soft values begin at a place.
-fn load_of<'a>(words: &'a [&'a str], at: usize) -> Result<Asked<'a>, NoCall> {
+pub fn load_of<'a>(words: &'a [&'a str], at: usize) -> Result<Asked<'a>, NoCall> {
     let [
         check,
         n,
@@ -86,7 +86,7 @@ fn load_of<'a>(words: &'a [&'a str], at: usize) -> Result<Asked<'a>, NoCall> {
 }
 
 // Any other call.
-fn call_of(words: &[&str]) -> Result<Call, NoCall> {
+pub fn call_of(words: &[&str]) -> Result<Call, NoCall> {
     match words {
         ["advance", budget, scratch] => Ok(Call::Advance {
             budget: number(budget)?,
@@ -98,16 +98,5 @@ fn call_of(words: &[&str]) -> Result<Call, NoCall> {
         }),
         ["report"] => Ok(Call::Report),
         _ => Err(NoCall::Malformed),
-    }
-}
-
-// What the words of a line ask for, where the soft values of a load begin at a place.
-pub fn asked_by<'a>(words: &'a [&'a str], at: usize) -> Result<Asked<'a>, NoCall> {
-    match words {
-        ["load", rest @ ..] => load_of(rest, at),
-        _ => Ok(Asked {
-            call: call_of(words)?,
-            soft: &[],
-        }),
     }
 }

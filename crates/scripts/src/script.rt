@@ -1,5 +1,5 @@
 // The lines of one script as the calls of a decoder. Assumes nothing.
-use crate::line::{asked_by, soft};
+use crate::line::{call_of, load_of, soft};
 use crate::refused::NoCall;
 use replay::Call;
 use std::alloc::{AllocError, Global};
@@ -23,16 +23,35 @@ impl Script {
         };
         for line in lines {
             let words: Vec<&str> = line.split(' ').collect(heap)?;
-            match asked_by(words.as_slice(), script.values.len()) {
-                Ok(asked) => {
-                    script.add_values(asked.soft)?;
-                    script.calls.push(asked.call)?;
-                    script.lines.push(Ok(()))?;
-                }
-                Err(reason) => script.lines.push(Err(reason))?,
+            match words.as_slice() {
+                ["load", rest @ ..] => script.add_load(rest)?,
+                others => script.add(call_of(others))?,
             }
         }
         Ok(script)
+    }
+
+    // Takes down what a line comes to.
+    fn add(&mut self, call: Result<Call, NoCall>) -> Result<(), AllocError> {
+        let line = match call {
+            Ok(call) => {
+                self.calls.push(call)?;
+                Ok(())
+            }
+            Err(reason) => Err(reason),
+        };
+        self.lines.push(line)?;
+        Ok(())
+    }
+
+    fn add_load(&mut self, words: &[&str]) -> Result<(), AllocError> {
+        match load_of(words, self.values.len()) {
+            Ok(asked) => {
+                self.add_values(asked.soft)?;
+                self.add(Ok(asked.call))
+            }
+            Err(reason) => self.add(Err(reason)),
+        }
     }
 
     fn add_values(&mut self, words: &[&str]) -> Result<(), AllocError> {
