@@ -1,5 +1,6 @@
-use Rattle.std.proofs.Common.{◌≡◌, true, false, ◌/◌, ◌<◌, length, slice_set, sym, ap, ◌∙◌, rules, arith}
+use Rattle.std.proofs.Common.{◌≡◌, Some, true, false, ◌/◌, ◌<◌, length, slice_set, sym, ap, ◌∙◌, rules, arith}
 use Rattle.std.proofs.lemmas.Grind.{common_steps}
+use Rattle.store.specs.Lesser.{lesser_of}
 use Rattle.store.specs.Meaning.{lowered, metric_of}
 use Rattle.store.specs.Order.{before}
 use Rattle.store.specs.Slots.{used, room, lowest}
@@ -54,7 +55,8 @@ returns-clause-kept c =
     let earlier : before c.args.c (at xs p) ≡ true = search rules in
     let shed = last-shed xs c.args.self.now.heaped p found c.args.c _ (c.is_full.ensures.0 c.if-not-is_full.false) earlier in
     let risen : sorted before (used c.rearrange-2.new.self) ≡ sorted before (slice_set xs p c.args.c) = search rules in
-    ap (sorted before) c.shed-2.ensures.used ∙ risen ∙ shed.0
+    let kept : used c.shed-2.new.self ≡ used c.rearrange-2.new.self = search rules in
+    ap (sorted before) kept ∙ risen ∙ shed.0
 
 pub returns-clause-floor : goal.returns-clause-floor
 unfolding lowered
@@ -64,4 +66,5 @@ returns-clause-floor c =
     let found : Last xs (length xs / 2) p = search rules in
     let earlier : before c.args.c (at xs p) ≡ true = search rules in
     let shed = last-shed xs c.args.self.now.heaped p found c.args.c _ (c.is_full.ensures.0 c.if-not-is_full.false) earlier in
-    c.shed-2.ensures.lowest ∙ cc (c.rearrange-2.ensures.lowest, c.as_slice-used.ensures) ∙ sym (ap (lowered metric_of (lowest c.args.self.now.slots)) shed.1)
+    let fallen : lowest c.shed-2.new.self ≡ lesser_of (lowest c.args.self.now.slots) (Some (at xs p).metric) = search rules in
+    fallen ∙ sym (ap (lowered metric_of (lowest c.args.self.now.slots)) shed.1)

@@ -29,7 +29,9 @@ returns-clause-result c =
     let m = c.in_ok-rest.rest in
     let long : length xs ≡ suc m = search rules in
     let swapped : used c.rearrange.new.self ≡ slice_set (slice_set xs 0 (at xs m)) m (at xs 0) = search rules in
-    (taken xs (used c.pop-first.new.self) m c.pop-first.result long c.args.self.now.heaped swapped c.pop-first.ensures.cases).0
+    let least : c.pop-first.result ≡ (takes (sorted before xs)).answer =
+    (taken xs (used c.pop-first.new.self) m c.pop-first.result long c.args.self.now.heaped swapped c.pop-first.ensures.cases).0 in
+    search rules
 
 pub returns-clause-kept : goal.returns-clause-kept
 returns-clause-kept c =
