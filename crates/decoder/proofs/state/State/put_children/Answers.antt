@@ -54,9 +54,7 @@ returns-in-Parity g c =
     c.parity_sum-bit.ensures ∙ ap₂ (λ q v. parity_sum (kind_at q) v i) c.plan-in-Parity.ensures c.path-path.ensures ∙ parity-read p u i in
     let one = c.put_child-in-Parity.ensures in
     record {
-      model =
-          one.model ∙ ap (λ b. put_child ruled (path_of d c.args.c) (loaded_of g.S.Store g.C.Judge d) b) (search (rules, sum))
-          ∙ ap (put_children ruled (path_of d c.args.c) (loaded_of g.S.Store g.C.Judge d)) (sym (allowed-first (kinds_of p) u i parity kind));
+      model = one.model ∙ ap (put_children ruled (path_of d c.args.c) (loaded_of g.S.Store g.C.Judge d)) (ap (λ b. b ∷ []) (search (rules, sum)) ∙ sym (allowed-first (kinds_of p) u i parity kind));
       apart = (one.apart.0, let h = one.apart.1 in omega arith);
       frame = one.frame;
       work = c.decision-value.ensures.block;
