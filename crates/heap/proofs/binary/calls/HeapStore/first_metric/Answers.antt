@@ -10,4 +10,4 @@ pub returns : goal.returns
 returns c =
     let xs = used c.args.self.now.slots in
     let least : first_metric xs ≡ first_metric (sorted before xs) = first_metric-sorted xs c.args.self.now.heaped in
-    search rules
+    search (rules, least)

@@ -10,4 +10,4 @@ pub returns : goal.returns
 returns c =
     let xs = used c.args.self.now.slots in
     let held : holds_row c.args.row (sorted before xs) ≡ holds_row c.args.row xs = holds-sorted c.args.row xs in
-    search rules
+    search (rules, held)

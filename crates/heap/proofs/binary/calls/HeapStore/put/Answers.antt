@@ -45,8 +45,7 @@ returns-then-not-before-clause-floor c =
     let found : Last xs (length xs / 2) p = search rules in
     let later : before c.args.c (at xs p) ≡ false = search rules in
     let shed = newcomer-shed xs c.args.self.now.heaped p found c.args.c _ (c.is_full.ensures.0 c.if-not-is_full.false) later in
-    let goes = ap (lowered metric_of (lowest c.args.self.now.slots)) shed.1 in
-    search rules
+    search (rules, ap (lowered metric_of (lowest c.args.self.now.slots)) shed.1)
 
 pub returns-clause-kept : goal.returns-clause-kept
 returns-clause-kept c =

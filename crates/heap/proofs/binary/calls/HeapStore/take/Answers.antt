@@ -31,7 +31,7 @@ returns-clause-result c =
     let swapped : used c.rearrange.new.self ≡ slice_set (slice_set xs 0 (at xs m)) m (at xs 0) = search rules in
     let least : c.pop-first.result ≡ (takes (sorted before xs)).answer =
     (taken xs (used c.pop-first.new.self) m c.pop-first.result long c.args.self.now.heaped swapped c.pop-first.ensures.cases).0 in
-    search rules
+    search (rules, least)
 
 pub returns-clause-kept : goal.returns-clause-kept
 returns-clause-kept c =
